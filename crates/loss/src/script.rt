@@ -20,6 +20,13 @@ pub struct LossEntry {
     pub count: u32,
 }
 
+// What stands at a place that no entry uses.
+const BLANK: LossEntry = LossEntry {
+    kind: SymbolKind::RRdy,
+    first: 0,
+    count: 0,
+};
+
 // A put, by its kind and its number among the puts of that kind.
 #[derive(Clone, Copy)]
 struct Turn {
@@ -49,11 +56,7 @@ impl LossScript {
         ensures { λ r. ⌜ script-state r ≡ [] ⌝ }
     {
         LossScript {
-            entries: Ring::new(LossEntry {
-                kind: SymbolKind::RRdy,
-                first: 0,
-                count: 0,
-            }),
+            entries: Ring::new(BLANK),
         }
     }
 

@@ -1,0 +1,5 @@
+pub mod Carried
+pub mod OneLaws
+pub mod Routes
+pub mod PairLaws
+pub mod Tables

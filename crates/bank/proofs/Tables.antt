@@ -1,0 +1,25 @@
+-- The script of a direction in a table of scripts.
+use Prim.Native.Nat.{ℕ, _<_, _≤_}
+use mathlib.Core.Path.{_≡_, sym, _∙_}
+use mathlib.Core.List.{List, []}
+use native.Mathlib.Omega.{arith}
+use lib.ListN.{length, getD, set}
+use Rattle.std.proofs.shelf.Lists.{getD-map, getD-past, length-map, set-past}
+use Rattle.loss.specs.States.{script-state}
+use Rattle.loss.specs.declared.script.LossEntry.{LossEntry}
+use Rattle.loss.specs.declared.script.LossScript.{LossScript}
+use Rattle.bank.specs.Losses.{directions-scripted, losses-state, script-at}
+use Rattle.bank.specs.declared.losses.Losses.{Losses}
+
+module _ (l : Losses) (d : ℕ) where
+  pub script-here : (x : LossScript) → d < directions-scripted → script-at (losses-state l) d ≡ script-state (getD (l .scripts) d x)
+  script-here x h = getD-map script-state (l .scripts) d x [] (omega (arith, l .long))
+
+  size : length (losses-state l) ≡ directions-scripted
+  size = length-map (l .scripts) script-state ∙ l .long
+
+  pub script-none : directions-scripted ≤ d → script-at (losses-state l) d ≡ []
+  script-none h = getD-past (losses-state l) d [] (omega (arith, size))
+
+  pub nothing-set : (es : List LossEntry) → directions-scripted ≤ d → set (losses-state l) d es ≡ losses-state l
+  nothing-set es h = set-past (losses-state l) d es (omega (arith, size))
