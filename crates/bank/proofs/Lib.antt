@@ -2,4 +2,3 @@ pub mod Carried
 pub mod OneLaws
 pub mod Routes
 pub mod PairLaws
-pub mod Tables

@@ -3,11 +3,8 @@ ghost use Rattle.bank.specs.Bank.{BankCalls, LawfulBank, count, letter-at};
 ghost use Rattle.channel.specs.Calls.{handed, idle};
 ghost use mathlib.Core.Path.{_≡_};
 
-pub mod links;
-pub mod losses;
 pub mod one;
 pub mod pair;
-pub mod pins;
 
 use symbol::Item;
 

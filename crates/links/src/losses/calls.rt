@@ -1,5 +1,5 @@
 // The scripts of all directions.
-ghost use Rattle.bank.specs.Losses.{directions-scripted, losses-state, script-at};
+ghost use Rattle.links.specs.Losses.{directions-scripted, losses-state, script-at};
 ghost use Rattle.loss.specs.Script.{entries-kept};
 ghost use Rattle.loss.specs.States.{script-state};
 ghost use Rattle.ring.specs.Queue.{pushed};

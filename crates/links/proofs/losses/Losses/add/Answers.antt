@@ -7,9 +7,9 @@ use Rattle.std.proofs.shelf.Tests.{lt-ltb, le-ltb}
 use Rattle.loss.specs.Script.{entries-kept}
 use Rattle.loss.specs.States.{script-state}
 use Rattle.ring.specs.Queue.{pushed}
-use Rattle.bank.specs.Losses.{directions-scripted, losses-state, script-at}
-use Rattle.bank.proofs.Tables.{script-here, nothing-set}
-use Rattle.bank.proofs.losses.Losses.add.Needs as need
+use Rattle.links.specs.Losses.{directions-scripted, losses-state, script-at}
+use Rattle.links.proofs.Tables.{script-here, nothing-set}
+use Rattle.links.proofs.losses.Losses.add.Needs as need
 
 pub returns-then-at-lt-DIRECTIONS : need.returns-then-at-lt-DIRECTIONS
 returns-then-at-lt-DIRECTIONS c =

@@ -4,7 +4,7 @@ use mathlib.Core.List.{List, [], map}
 use lib.ListN.{getD}
 use Rattle.loss.specs.States.{script-state}
 use Rattle.loss.specs.declared.script.LossEntry.{LossEntry}
-use Rattle.bank.specs.declared.losses.Losses.{Losses}
+use Rattle.links.specs.declared.losses.Losses.{Losses}
 
 -- as many as the longest chain has
 abbrev pub directions-scripted : ℕ

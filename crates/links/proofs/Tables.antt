@@ -8,8 +8,8 @@ use Rattle.std.proofs.shelf.Lists.{getD-map, getD-past, length-map, set-past}
 use Rattle.loss.specs.States.{script-state}
 use Rattle.loss.specs.declared.script.LossEntry.{LossEntry}
 use Rattle.loss.specs.declared.script.LossScript.{LossScript}
-use Rattle.bank.specs.Losses.{directions-scripted, losses-state, script-at}
-use Rattle.bank.specs.declared.losses.Losses.{Losses}
+use Rattle.links.specs.Losses.{directions-scripted, losses-state, script-at}
+use Rattle.links.specs.declared.losses.Losses.{Losses}
 
 module _ (l : Losses) (d : ℕ) where
   pub script-here : (x : LossScript) → d < directions-scripted → script-at (losses-state l) d ≡ script-state (getD (l .scripts) d x)

@@ -1,16 +1,18 @@
 // The banks of one link and of three, with scripted loss over every direction.
-ghost use Rattle.bank.specs.Idle.{All-idle};
-ghost use Rattle.bank.specs.Links.{lossy-rings, lossy-three-links, lossy-wires, one-link, three-links};
-ghost use Rattle.bank.specs.Links.{link-state, one-link-state, ring-link-state, three-links-state};
-ghost use Rattle.bank.specs.Losses.{losses-state, script-at};
+ghost use Rattle.links.specs.Idle.{All-idle};
+ghost use Rattle.links.specs.Links.{lossy-rings, lossy-three-links, lossy-wires, one-link, three-links};
+ghost use Rattle.links.specs.Links.{link-state, one-link-state, ring-link-state, three-links-state};
+ghost use Rattle.links.specs.Losses.{losses-state, script-at};
+ghost use Rattle.bank.specs.States.{pair-state};
 ghost use Rattle.loss.specs.States.{script-state};
 ghost use mathlib.Core.List.{[], _∷_};
 ghost use mathlib.Core.Path.{_≡_};
 use crate::losses::Losses;
-use crate::one::One;
-use crate::one::OneBank;
-use crate::pair::Pair;
-use crate::pair::PairBank;
+use bank::Bank;
+use bank::one::One;
+use bank::one::OneBank;
+use bank::pair::Pair;
+use bank::pair::PairBank;
 use channel::Channel;
 use channel::delay::DelayRing;
 use channel::delay::calls::DelayRingChannel;
@@ -58,6 +60,13 @@ fn ring_link(east: LossScript, west: LossScript) -> Link<LossyRing>
     )
 }
 
+// Three banks, the westernmost one's numbers first.
+fn three<P: Bank, Q: Bank, R: Bank>(west: P, middle: Q, east: R) -> Pair<P, Pair<Q, R>>
+    ensures { λ r. ⌜ _≡_ {A = P·Bank .Model × (Q·Bank .Model × R·Bank .Model)} (pair-state (P·Bank .model) (pair-state (Q·Bank .model) (R·Bank .model)) r) (P·Bank .model west, (Q·Bank .model middle, R·Bank .model east)) ⌝ }
+{
+    Pair::new(west, Pair::new(middle, east))
+}
+
 // A link of wires.
 pub fn one_link(losses: &Losses) -> OneLink
     ensures state { λ r. ⌜ one-link-state r ≡ lossy-wires (script-at (losses-state (now (losses .entry))) 0) (script-at (losses-state (now (losses .entry))) 1) ⌝ }
@@ -73,8 +82,9 @@ pub fn three_links(losses: &Losses) -> ThreeLinks
     ensures letters { λ r. ⌜ three-links .letters (three-links-state r) ≡ 119 ∷ 119 ∷ 100 ∷ 100 ∷ 119 ∷ 119 ∷ [] ⌝ }
     ensures idle { λ r. ⌜ All-idle three-links (three-links-state r) ⌝ }
 {
-    let west = wire_link(losses.script(0), losses.script(1));
-    let middle = ring_link(losses.script(2), losses.script(3));
-    let east = wire_link(losses.script(4), losses.script(5));
-    Pair::new(west, Pair::new(middle, east))
+    three(
+        wire_link(losses.script(0), losses.script(1)),
+        ring_link(losses.script(2), losses.script(3)),
+        wire_link(losses.script(4), losses.script(5)),
+    )
 }

@@ -1,6 +1,6 @@
 use mathlib.Core.Path.{sym, _∙_}
-use Rattle.bank.proofs.Tables.{script-here, script-none}
-use Rattle.bank.proofs.losses.Losses.script.Needs as need
+use Rattle.links.proofs.Tables.{script-here, script-none}
+use Rattle.links.proofs.losses.Losses.script.Needs as need
 
 pub returns-then-at-lt-DIRECTIONS : need.returns-then-at-lt-DIRECTIONS
 returns-then-at-lt-DIRECTIONS c =
