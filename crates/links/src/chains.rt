@@ -73,7 +73,9 @@ pub fn one_link(losses: &Losses) -> OneLink
     ensures letters { λ r. ⌜ one-link .letters (one-link-state r) ≡ 119 ∷ 119 ∷ [] ⌝ }
     ensures idle { λ r. ⌜ All-idle one-link (one-link-state r) ⌝ }
 {
-    wire_link(losses.script(0), losses.script(1))
+    let east = losses.script(0);
+    let west = losses.script(1);
+    wire_link(east, west)
 }
 
 // A link of wires, one of delay rings, and one of wires.

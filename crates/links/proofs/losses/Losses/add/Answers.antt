@@ -8,29 +8,29 @@ use Rattle.loss.specs.Script.{entries-kept}
 use Rattle.loss.specs.States.{script-state}
 use Rattle.ring.specs.Queue.{pushed}
 use Rattle.links.specs.Losses.{directions-scripted, losses-state, script-at}
-use Rattle.links.proofs.Tables.{script-here, nothing-set}
+use Rattle.links.proofs.Tables.{loss-nowhere}
 use Rattle.links.proofs.losses.Losses.add.Needs as need
 
-pub returns-then-at-lt-DIRECTIONS : need.returns-then-at-lt-DIRECTIONS
-returns-then-at-lt-DIRECTIONS c =
+pub returns : need.returns
+returns c =
     let l = c .args .self .now in
     let d = c .args .direction in
-    let here = script-here l d (c .index-self-at .result) (c .if-at-lt-DIRECTIONS .taken) in
+    let before = c .script-script .ensures in
     record {
       state =
           map-set script-state (l .scripts) d (c .add-kept .last .self)
-          ∙ ap (set (losses-state l) d) (c .add-kept .ensures .state ∙ ap (λ es. pushed entries-kept es (c .args .entry)) (sym here));
+          ∙ ap (set (losses-state l) d) (c .add-kept .ensures .state ∙ ap (λ es. pushed entries-kept es (c .args .entry)) before);
       answer =
           c .add-kept .ensures .answer
-          ∙ sym (ap₂ (λ a es. a && ltb (length es) entries-kept) (lt-ltb d directions-scripted (c .if-at-lt-DIRECTIONS .taken)) here);
+          ∙ ap₂ (λ b es. b && ltb (length es) entries-kept) (sym (lt-ltb d directions-scripted (c .if-at-ge-DIRECTIONS .left))) before;
     }
 
-pub returns-else-at-lt-DIRECTIONS : need.returns-else-at-lt-DIRECTIONS
-returns-else-at-lt-DIRECTIONS c =
+pub returns-then-at-ge-DIRECTIONS : need.returns-then-at-ge-DIRECTIONS
+returns-then-at-ge-DIRECTIONS c =
     let l = c .args .self .now in
     let d = c .args .direction in
-    let past = c .if-at-lt-DIRECTIONS .left in
+    let past = c .if-at-ge-DIRECTIONS .taken in
     record {
-      state = sym (nothing-set l d _ past);
-      answer = sym (ap (λ a. a && ltb (length (script-at (losses-state l) d)) entries-kept) (le-ltb d directions-scripted past));
+      state = sym (loss-nowhere l d (c .args .entry) past);
+      answer = sym (ap (λ b. b && ltb (length (script-at (losses-state l) d)) entries-kept) (le-ltb d directions-scripted past));
     }
