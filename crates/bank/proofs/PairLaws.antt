@@ -2,12 +2,12 @@
 use Prim.Native.Nat.{ℕ, _-_, _<_, _≤_}
 use mathlib.Core.Bool.{Bool, false}
 use mathlib.Core.Logic.{_≢_}
-use mathlib.Core.Path.{_≡_, refl, sym, ap, ap₂, _∙_}
+use mathlib.Core.Path.{_≡_, refl, ap, ap₂, _∙_}
 use mathlib.Core.List.{_++_}
 use native.Mathlib.Omega.{arith}
 use lib.ListN.{length, take}
 use Rattle.symbol.specs.declared.Item.{Item}
-use Rattle.channel.specs.Calls.{Lawful, Known}
+use Rattle.channel.specs.Calls.{Lawful}
 use Rattle.bank.specs.Bank.{BankCalls, LawfulBank, channel-at, absent, count, most-channels}
 use Rattle.bank.specs.Banks.{Apart, pair, route, routed}
 use Rattle.bank.specs.declared.pair.Route.{Route}
