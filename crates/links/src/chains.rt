@@ -1,9 +1,9 @@
 // The banks of one link and of three, with scripted loss over every direction.
 ghost use Rattle.links.specs.Idle.{All-idle};
-ghost use Rattle.links.specs.Links.{lossy-rings, lossy-three-links, lossy-wires, one-link, three-links};
-ghost use Rattle.links.specs.Links.{link-state, one-link-state, ring-link-state, three-links-state};
+ghost use Rattle.links.specs.Links.{lossy-one-link, lossy-rings, lossy-three-links, lossy-wires, one-link, three-links};
+ghost use Rattle.links.specs.Links.{link-state, one-link-state, ring-link-state, three-links-state, three-state};
 ghost use Rattle.links.specs.Losses.{losses-state, script-at};
-ghost use Rattle.bank.specs.States.{pair-state};
+ghost use Rattle.bank.specs.States.{both};
 ghost use Rattle.loss.specs.States.{script-state};
 ghost use mathlib.Core.List.{[], _∷_};
 ghost use mathlib.Core.Path.{_≡_};
@@ -37,7 +37,7 @@ pub type ThreeLinks = Pair<Link<LossyWire>, Pair<Link<LossyRing>, Link<LossyWire
 const DELAY: u16 = 5;
 
 fn link<C: Channel>(east: C, west: C) -> Link<C>
-    ensures { λ r. ⌜ _≡_ {A = C·Channel .Model × C·Channel .Model} (link-state (C·Channel .model) r) (C·Channel .model east, C·Channel .model west) ⌝ }
+    ensures { λ r. ⌜ link-state (C·Channel .model) r ≡ both (C·Channel .model east) (C·Channel .model west) ⌝ }
 {
     Pair::new(One { channel: east }, One { channel: west })
 }
@@ -62,14 +62,14 @@ fn ring_link(east: LossScript, west: LossScript) -> Link<LossyRing>
 
 // Three banks, the westernmost one's numbers first.
 fn three<P: Bank, Q: Bank, R: Bank>(west: P, middle: Q, east: R) -> Pair<P, Pair<Q, R>>
-    ensures { λ r. ⌜ _≡_ {A = P·Bank .Model × (Q·Bank .Model × R·Bank .Model)} (pair-state (P·Bank .model) (pair-state (Q·Bank .model) (R·Bank .model)) r) (P·Bank .model west, (Q·Bank .model middle, R·Bank .model east)) ⌝ }
+    ensures { λ r. ⌜ three-state (P·Bank .model) (Q·Bank .model) (R·Bank .model) r ≡ both (P·Bank .model west) (both (Q·Bank .model middle) (R·Bank .model east)) ⌝ }
 {
     Pair::new(west, Pair::new(middle, east))
 }
 
 // A link of wires.
 pub fn one_link(losses: &Losses) -> OneLink
-    ensures state { λ r. ⌜ one-link-state r ≡ lossy-wires (script-at (losses-state (now (losses .entry))) 0) (script-at (losses-state (now (losses .entry))) 1) ⌝ }
+    ensures state { λ r. ⌜ one-link-state r ≡ lossy-one-link (script-at (losses-state (now (losses .entry)))) ⌝ }
     ensures letters { λ r. ⌜ one-link .letters (one-link-state r) ≡ 119 ∷ 119 ∷ [] ⌝ }
     ensures idle { λ r. ⌜ All-idle one-link (one-link-state r) ⌝ }
 {
