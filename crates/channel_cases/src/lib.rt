@@ -255,32 +255,16 @@ mod tests {
         check_eq(bank.take(3), None)
     }
 
-    #[test]
-    fn pairs_nest_both_ways() -> Result<(), Fail> {
-        let wire = One {
-            channel: Wire::new(),
-        };
-        let ring = One {
-            channel: DelayRing::new(1),
-        };
-        let gate = One {
-            channel: Gate::new(),
-        };
-        numbered(&mut Pair::new(Pair::new(wire, ring), gate))
+    fn one<T: Channel>(channel: T) -> One<T> {
+        One { channel }
     }
 
     #[test]
-    fn pairs_nest_the_other_way() -> Result<(), Fail> {
-        let wire = One {
-            channel: Wire::new(),
-        };
-        let ring = One {
-            channel: DelayRing::new(1),
-        };
-        let gate = One {
-            channel: Gate::new(),
-        };
-        numbered(&mut Pair::new(wire, Pair::new(ring, gate)))
+    fn pairs_nest_both_ways() -> Result<(), Fail> {
+        let first = Pair::new(one(Wire::new()), one(DelayRing::new(1)));
+        numbered(&mut Pair::new(first, one(Gate::new())))?;
+        let second = Pair::new(one(DelayRing::new(1)), one(Gate::new()));
+        numbered(&mut Pair::new(one(Wire::new()), second))
     }
 
     #[test]
