@@ -16,7 +16,7 @@ pub struct Pair<P, Q> {
 }
 
 // Where a number of a pair leads.
-pub enum Route {
+enum Route {
     First(u8),
     Second(u8),
     Nowhere,

@@ -69,8 +69,8 @@ mod tests {
     use channel::delay::calls::DelayRingChannel;
     use gate::Gate;
     use gate::GateChannel;
-    use links::chains::one_link;
     use links::losses::Losses;
+    use links::one_link;
     use std::test::*;
     use symbol::ItemDebug;
     use symbol::ItemPartialEq;
