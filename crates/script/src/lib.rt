@@ -1,0 +1,4 @@
+// The script of the bench: its lines, words and commands, and whether it may be played.
+pub mod command;
+pub mod fault;
+pub mod order;
