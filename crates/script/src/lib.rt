@@ -2,3 +2,5 @@
 pub mod command;
 pub mod fault;
 pub mod order;
+pub mod scan;
+pub mod token;
