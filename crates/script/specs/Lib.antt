@@ -1,5 +1,6 @@
 pub mod Commands
 pub mod Faults
+pub mod Line
 pub mod Order
 pub mod Text
 pub mod Tokens

@@ -1,6 +1,7 @@
 // The script of the bench: its lines, words and commands, and whether it may be played.
 pub mod command;
 pub mod fault;
+pub mod line;
 pub mod order;
 pub mod scan;
 pub mod token;
