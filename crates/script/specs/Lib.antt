@@ -2,5 +2,6 @@ pub mod Commands
 pub mod Faults
 pub mod Line
 pub mod Order
+pub mod Script
 pub mod Text
 pub mod Tokens
