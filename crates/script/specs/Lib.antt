@@ -1,5 +1,6 @@
 pub mod Commands
 pub mod Faults
+pub mod Laws
 pub mod Line
 pub mod Order
 pub mod Script

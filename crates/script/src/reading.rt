@@ -1,6 +1,8 @@
 // A script read command by command, and checked whole.
 ghost use Prim.Native.Nat.{_+_, _<_, _≤_};
+ghost use Rattle.script.specs.Laws.{Lined};
 ghost use Rattle.script.specs.Script.{Stepped, bytes, commands, first-then, next, next-line, started, state, verdict};
+ghost use Rattle.script.specs.Text.{lines};
 ghost use Rattle.std.specs.Options.{mapped};
 ghost use lib.ListN.{length};
 ghost use mathlib.Core.Path.{_≡_};
@@ -20,7 +22,8 @@ const SCRIPT: usize = 16_384;
 impl<'a> Cursor<'a> {
     // A cursor before the first line.
     pub fn new(script: &'a [u8]) -> Cursor<'a>
-        ensures { λ r. ⌜ state r ≡ started (now (script .entry)) ⌝ }
+        ensures start { λ r. ⌜ state r ≡ started (now (script .entry)) ⌝ }
+        ensures law { λ _. ⌜ Lined (now (script .entry)) (lines (now (script .entry))) ⌝ }
     {
         Cursor {
             script,

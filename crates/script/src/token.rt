@@ -1,6 +1,7 @@
 // The words of a line as tokens, which borrow their bytes.
 ghost use Prim.Native.Nat.{_≤_};
-ghost use Rattle.script.specs.Text.{number-of};
+ghost use Rattle.script.specs.Laws.{Parted};
+ghost use Rattle.script.specs.Text.{words};
 ghost use Rattle.script.specs.Tokens.{classified, left, line-tokens, seen, split};
 ghost use Rattle.std.specs.Options.{mapped};
 ghost use lib.Dec.{eqb};
@@ -64,7 +65,8 @@ pub struct Tokens<'a> {
 
 impl<'a> Tokens<'a> {
     pub fn new(text: &'a [u8], line: usize) -> Tokens<'a>
-        ensures { λ r. ⌜ left r ≡ line-tokens line (now (text .entry)) ⌝ }
+        ensures tokens { λ r. ⌜ left r ≡ line-tokens line (now (text .entry)) ⌝ }
+        ensures law { λ _. ⌜ Parted 1 (now (text .entry)) (words 1 (now (text .entry))) ⌝ }
     {
         Tokens { text, line, at: 0 }
     }

@@ -1,8 +1,7 @@
-use mathlib.Core.Path.{_≡_, refl, ap}
-use Rattle.script.specs.Script.{state, State}
-use Rattle.script.specs.Text.{lines}
+use Rattle.script.specs.Script.{state}
+use Rattle.script.proofs.Parts.{lined}
 use Rattle.script.proofs.cursor.Cursor.new.Needs as need
 
 pub returns : need.returns
 unfolding state
-returns c = rw (c .new .ensures)
+returns c = record { start = rw (c .new .ensures); law = lined (c .args .script .now) }
