@@ -19,14 +19,15 @@ use Rattle.script.specs.declared.command.Keyword.the-variants as keyword
 use Rattle.script.specs.declared.fault.Fault.{Fault}
 use Rattle.script.specs.declared.fault.Place.{Place}
 use Rattle.script.specs.declared.fault.Refusal.{Refusal}
-use Rattle.script.specs.declared.line.Number.{Number}
+use Rattle.script.specs.declared.arguments.Number.{Number}
 use Rattle.script.specs.declared.line.Read.{Read}
 use Rattle.script.specs.declared.order.Progress.{Progress}
+use Rattle.script.specs.Arguments.{number-by, as-number, letter-by, as-letter, as-end, as-kind, within, below, rest}
+use Rattle.script.specs.Arguments.{taken, taken-number, chain-by, chain-of, login-of, lose-of, frames-of, inject-of}
+use Rattle.script.specs.Arguments.{collect-of, step-of, arguments-of}
 use Rattle.script.specs.Commands.{keyword-of, arity, end-with}
 use Rattle.script.specs.Faults.{fault, then}
-use Rattle.script.specs.Line.{number-by, as-number, letter-by, as-letter, as-end, as-kind, within, below, rest, taken}
-use Rattle.script.specs.Line.{taken-number, chain-by, chain-of, login-of, lose-of, frames-of, inject-of, collect-of}
-use Rattle.script.specs.Line.{step-of, arguments-of, command-by, command-of, ordered-by, ordered, read-tokens, read-line}
+use Rattle.script.specs.Line.{command-by, command-of, ordered-by, ordered, read-tokens, read-line}
 use Rattle.script.specs.Order.{after}
 use Rattle.script.specs.Text.{Word, words}
 use Rattle.script.specs.Tokens.{Kind, number, letter, other, Seen, placed, line-tokens}

@@ -59,7 +59,7 @@ pub struct Placed {
 
 // The word that a command begins with.
 #[derive(Clone, Copy)]
-pub enum Keyword {
+pub(crate) enum Keyword {
     Chain,
     Login,
     Lose,
@@ -103,7 +103,7 @@ fn same(text: &[u8], word: &[u8]) -> bool
 
 impl Keyword {
     // The keyword that a word is.
-    pub fn from_word(text: &[u8]) -> Option<Keyword>
+    pub(crate) fn from_word(text: &[u8]) -> Option<Keyword>
         ensures { λ r. ⌜ r ≡ keyword-of (now (text .entry)) ⌝ }
     {
         if same(text, b"chain") {
@@ -128,7 +128,7 @@ impl Keyword {
     }
 
     // How many words follow it.
-    pub fn arity(self) -> u8
+    pub(crate) fn arity(self) -> u8
         ensures { λ r. ⌜ r ≡ arity self ⌝ }
     {
         match self {

@@ -1,9 +1,10 @@
 // The script of the bench: its lines, words and commands, and whether it may be played.
+mod arguments;
 pub mod command;
 pub mod cursor;
 pub mod fault;
-pub mod line;
+mod line;
 pub mod order;
 pub mod reading;
-pub mod scan;
+mod scan;
 pub mod token;

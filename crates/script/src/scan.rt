@@ -10,7 +10,7 @@ const DIGITS: usize = 8;
 
 // What a run is made of.
 #[derive(Clone, Copy)]
-pub enum Run {
+pub(crate) enum Run {
     Gap,
     Word,
     Line,
@@ -29,7 +29,7 @@ impl Run {
 }
 
 // Where the run from `at` on ends: the place of the first byte that is not in it.
-pub fn run_end(text: &[u8], at: usize, run: Run) -> usize
+pub(crate) fn run_end(text: &[u8], at: usize, run: Run) -> usize
     ensures { λ r. ⌜ r ≡ at + leading (in-run run) (drop at (now (text .entry))) ⌝ }
 {
     let mut i = at;
@@ -40,7 +40,7 @@ pub fn run_end(text: &[u8], at: usize, run: Run) -> usize
 }
 
 // The number that 1 to 8 digits write.
-pub fn read_number(text: &[u8]) -> Option<u32>
+pub(crate) fn read_number(text: &[u8]) -> Option<u32>
     ensures { λ r. ⌜ r ≡ number-of (now (text .entry)) ⌝ }
 {
     if text.is_empty() || text.len() > DIGITS {
