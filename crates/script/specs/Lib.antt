@@ -1,6 +1,7 @@
 pub mod Arguments
 pub mod Commands
 pub mod Faults
+pub mod Judged
 pub mod Laws
 pub mod Line
 pub mod Order
