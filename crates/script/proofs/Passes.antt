@@ -90,10 +90,7 @@ pub passes : (s t : State) (r : Result (Option Placed) Fault) → _≡_ {A = Ste
     → commands s ≡ first-then r (commands t)
 passes s t r h = commands-next s ∙ ap (λ p. first-then (p .0) (commands (p .1))) (sym h)
 
-ends-before : (c : Placed) (r : Result (List Placed) Fault) → ends (before c r) ≡ ends r
-ends-before c (Ok cs) = refl
-ends-before c (Err e) = refl
-
--- a command that was read leaves the verdict to those behind it
-pub ends-next : (s t : State) (c : Placed) → commands s ≡ before c (commands t) → ends (commands t) ≡ ends (commands s)
-ends-next s t c h = sym (ap ends h ∙ ends-before c (commands t))
+-- where no command is left
+pub ends-none : (s t : State) (o : Option Placed) → commands s ≡ first-then (Ok o) (commands t) → o ≡ None
+    → Ok tt ≡ ends (commands s)
+ends-none s t o h e = sym (ap ends (h ∙ ap (λ x. first-then (Ok x) (commands t)) e))

@@ -1,12 +1,12 @@
 -- What is known of every script that was judged.
-use Prim.Native.Nat.{ℕ, _<_}
+use Prim.Native.Nat.{ℕ, _<_, _≤_}
 use mathlib.Core.Path.{_≡_, refl, sym, ap, _∙_}
 use mathlib.Core.Bool.{Bool, true, false, cond}
 use mathlib.Core.List.{List}
 use mathlib.Core.Logic.{inl, inr}
 use lib.Dec.{ltb}
 use lib.ListN.{length}
-use Rattle.std.proofs.shelf.Tests.{ltb-true}
+use Rattle.std.proofs.shelf.Tests.{ltb-true, le-ltb}
 use Rattle.std.specs.declared.result.Result.{Result}
 use Rattle.std.specs.declared.result.Result.the-variants.{Ok, Err}
 use Rattle.script.specs.declared.command.Placed.{Placed}
@@ -32,6 +32,10 @@ judged-by bs false long =
     let short : script-commands bs ≡ commands (started bs) =
     ap (λ (v : Bool). cond v (fault TooLong (record { line = 0; byte = 0 })) (commands (started bs))) long in
     rw short (short-by bs (commands (started bs)) short refl)
+
+-- the verdict on a script that is not too long is that on its commands
+pub verdict-short : (bs : List ℕ) → length bs ≤ 16384 → ends (commands (started bs)) ≡ verdict bs
+verdict-short bs h = rw (le-ltb 16384 (length bs))
 
 pub judged : (bs : List ℕ) → Judged bs (verdict bs)
 judged bs = judged-by bs (ltb 16384 (length bs)) refl

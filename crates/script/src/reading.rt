@@ -1,5 +1,6 @@
 // A script read command by command, and checked whole.
 ghost use Prim.Native.Nat.{_+_, _<_, _≤_};
+ghost use Rattle.script.specs.Judged.{Judged};
 ghost use Rattle.script.specs.Laws.{Lined};
 ghost use Rattle.script.specs.Script.{Stepped, bytes, commands, first-then, next, next-line, started, state, verdict};
 ghost use Rattle.script.specs.Text.{lines};
@@ -67,9 +68,10 @@ impl<'a> Cursor<'a> {
     }
 }
 
-// Whether a script may be played: the first fault of its lines, if any.
+// Whether a script may be played, or its first fault.
 pub fn check(script: &[u8]) -> Result<(), Fault>
-    ensures { λ r. ⌜ r ≡ verdict (now (script .entry)) ⌝ }
+    ensures answer { λ r. ⌜ r ≡ verdict (now (script .entry)) ⌝ }
+    ensures law { λ _. ⌜ Judged (now (script .entry)) (verdict (now (script .entry))) ⌝ }
 {
     if script.len() > SCRIPT {
         return Err(Fault {
@@ -78,10 +80,6 @@ pub fn check(script: &[u8]) -> Result<(), Fault>
         });
     }
     let mut cursor = Cursor::new(script);
-    'commands: loop {
-        match cursor.next_command()? {
-            Some(_) => {}
-            None => return Ok(()),
-        }
-    }
+    'commands: while let Some(_) = cursor.next_command()? {}
+    Ok(())
 }
