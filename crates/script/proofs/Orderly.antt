@@ -30,7 +30,8 @@ use Rattle.script.specs.declared.order.Stage.the-variants.{Bare, Cabled, Runni
 use Rattle.script.specs.Faults.{fault, then}
 use Rattle.script.specs.Judged.{is-chain, runs, is-drain, follows, loses-on, loses-for, Chained, Followed, Orderly}
 use Rattle.script.specs.Line.{command-of, ordered-by, ordered, read-tokens, read-line}
-use Rattle.script.specs.Order.{cabled, prepared, injected, run, drained, stage-after, nothing-read, at-stage, one-more-lose}
+use Rattle.script.specs.Order.{cabled, prepared, injected, run}
+use Rattle.script.specs.Order.{drained, stage-after, nothing-read, at-stage, one-more-lose}
 use Rattle.script.specs.Order.{noted, at-stage?, after}
 use Rattle.script.specs.Script.{before, commands-by, progress-by, commands-from}
 use Rattle.script.specs.Tokens.{Seen, line-tokens}
@@ -179,8 +180,10 @@ moved Page s t h = moved-run s t h
 -- nothing but a chain line stands first
 first-chain : (c : Command) (t : Stage) → stage-after Bare c ≡ Some t → is-chain c ≡ true
 first-chain (Chain links) t h = refl
-first-chain (Login link west east m n) t h = let z : _≡_ {A = ℕ} 0 1 = cc in absurd (let no-way : ⊥ = omega arith in no-way)
-first-chain (Lose d kind first count) t h = let z : _≡_ {A = ℕ} 0 1 = cc in absurd (let no-way : ⊥ = omega arith in no-way)
+first-chain (Login link west east m n) t h =
+    let z : _≡_ {A = ℕ} 0 1 = cc in absurd (let no-way : ⊥ = omega arith in no-way)
+first-chain (Lose d kind first count) t h =
+    let z : _≡_ {A = ℕ} 0 1 = cc in absurd (let no-way : ⊥ = omega arith in no-way)
 first-chain (Inject end count) t h = let z : _≡_ {A = ℕ} 0 1 = cc in absurd (let no-way : ⊥ = omega arith in no-way)
 first-chain (Collect end count) t h = let z : _≡_ {A = ℕ} 0 1 = cc in absurd (let no-way : ⊥ = omega arith in no-way)
 first-chain (Step count) t h = let z : _≡_ {A = ℕ} 0 1 = cc in absurd (let no-way : ⊥ = omega arith in no-way)
@@ -246,11 +249,13 @@ one-on d c = cond (loses-on d c) 1 0
 abbrev Counted : Command → List ℕ → List ℕ → Type 0
 Counted c xs ys = Low ys × ((d : ℕ) → getD xs d 0 + one-on d c ≡ getD ys d 0)
 
-bump-at : (xs : List ℕ) (e d : ℕ) (v : Bool) → eqb e d ≡ v → length xs ≡ 6 → e < 6 → getD xs e 0 < 16 → getD xs d 0 ≤ 16
+bump-at : (xs : List ℕ) (e d : ℕ) (v : Bool) → eqb e d ≡ v → length xs ≡ 6 → e < 6 → getD xs e 0 < 16
+    → getD xs d 0 ≤ 16
     → (getD xs d 0 + cond v 1 0 ≡ getD (set xs e (getD xs e 0 + 1)) d 0) × (getD (set xs e (getD xs e 0 + 1)) d 0 ≤ 16)
 bump-at xs e d true is six small few low =
     let same : e ≡ d = eqb-true e d is in
-    let new : getD (set xs e (getD xs e 0 + 1)) e 0 ≡ getD xs e 0 + 1 = getD-set-same xs e (getD xs e 0 + 1) 0 (omega arith) in
+    let new : getD (set xs e (getD xs e 0 + 1)) e 0 ≡ getD xs e 0 + 1 =
+    getD-set-same xs e (getD xs e 0 + 1) 0 (omega arith) in
     let at : getD (set xs e (getD xs e 0 + 1)) d 0 ≡ getD xs d 0 + 1 =
     subst (λ (k : ℕ). getD (set xs e (getD xs e 0 + 1)) k 0 ≡ getD xs k 0 + 1) same new in
     let few′ : getD xs d 0 < 16 = subst (λ (k : ℕ). getD xs k 0 < 16) same few in
@@ -338,7 +343,8 @@ loses-by p (c ∷ cs) low (q, (e, more)) d =
 
 chained-by : (cs : List Placed) → Low (nothing-read .loses) → Accepted nothing-read cs → Chained cs
 chained-by [] low h = tt
-chained-by (c ∷ cs) low (q, (e, more)) = first-chain (c .command) (q .stage) (accepted nothing-read q low (c .command) e .0)
+chained-by (c ∷ cs) low (q, (e, more)) =
+    first-chain (c .command) (q .stage) (accepted nothing-read q low (c .command) e .0)
 
 none-yet : (k d : ℕ) → getD (replicate k 0) d 0 ≤ 16
 none-yet zero d = omega arith

@@ -68,7 +68,8 @@ Fewer k s = (c : Placed) → s .0 ≡ Ok (Some c) → length (s .1 .ahead) < k
 
 fewer-past : (t : State) (r : Result (Option Read) Fault) (onward : Stepped) (k : ℕ)
     → length (t .ahead) < k → Fewer k onward → Fewer k (past-line t r onward)
-fewer-past t (Err e) onward k h more c q = let z : _≡_ {A = ℕ} 0 1 = cc in absurd (let no-way : ⊥ = omega arith in no-way)
+fewer-past t (Err e) onward k h more c q =
+    let z : _≡_ {A = ℕ} 0 1 = cc in absurd (let no-way : ⊥ = omega arith in no-way)
 fewer-past t (Ok None) onward k h more c q = more c q
 fewer-past t (Ok (Some x)) onward k h more c q = h
 
@@ -78,7 +79,8 @@ fewer-from n p (l ∷ ls) c q =
     fewer-past (record { done = n + 1; progress = p; ahead = ls }) (read-line (n + 1) p l) (next-from (n + 1) p ls)
     (length (l ∷ ls)) (omega arith) (λ d e. let f = fewer-from (n + 1) p ls d e in omega arith) c q
 
-pub fewer : (s t : State) (c : Placed) → _≡_ {A = Stepped} (Ok (Some c), t) (next s) → length (t .ahead) < length (s .ahead)
+pub fewer : (s t : State) (c : Placed) → _≡_ {A = Stepped} (Ok (Some c), t) (next s)
+    → length (t .ahead) < length (s .ahead)
 fewer s t c h =
     let first : next s .0 ≡ Ok (Some c) = ap (λ p. p .0) (sym h) in
     let last : t .ahead ≡ next s .1 .ahead = ap (λ p. p .1 .ahead) h in

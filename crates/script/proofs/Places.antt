@@ -49,7 +49,8 @@ on-then : {A B : Type 0} (k : ℕ) (P : A → Type 0) (Q : B → Type 0) (r : Re
 on-then k P Q (Ok x) f h g = g x h
 on-then k P Q (Err e) f h g = h
 
-on-cond : {A : Type 0} (k : ℕ) (P : A → Type 0) (b : Bool) (r s : Result A Fault) → On k P r → On k P s → On k P (cond b r s)
+on-cond : {A : Type 0} (k : ℕ) (P : A → Type 0) (b : Bool) (r s : Result A Fault) → On k P r → On k P s
+    → On k P (cond b r s)
 on-cond k P true r s h g = h
 on-cond k P false r s h g = g
 
@@ -109,7 +110,8 @@ module _ (k : ℕ) (head : Place) (at : head .line ≡ k) where
   on-chain : (ts : List Seen) → All (Token-on k) ts → On k Any (chain-of head ts)
   on-chain ts h =
       with-number ts chain-by h (λ n e.
-      on-cond k Any (eqb (n .value) 1) (Ok (Chain One)) (cond (eqb (n .value) 3) (Ok (Chain Three)) (fault OutOfRange (n .place))) tt
+      on-cond k Any (eqb (n .value) 1) (Ok (Chain One))
+      (cond (eqb (n .value) 3) (Ok (Chain Three)) (fault OutOfRange (n .place))) tt
       (on-cond k Any (eqb (n .value) 3) (Ok (Chain Three)) (fault OutOfRange (n .place)) tt e))
 
   on-login : (ts : List Seen) → All (Token-on k) ts → On k Any (login-of head ts)
@@ -156,10 +158,12 @@ module _ (k : ℕ) (head : Place) (at : head .line ≡ k) where
   on-arguments keyword.Drain ds ts h = tt
   on-arguments keyword.Page ds ts h = tt
 
-  on-command : (w : Option Keyword) (ds : ℕ) (ts : List Seen) → All (Token-on k) ts → On k Any (command-by w ds head ts)
+  on-command : (w : Option Keyword) (ds : ℕ) (ts : List Seen) → All (Token-on k) ts
+      → On k Any (command-by w ds head ts)
   on-command None ds ts h = at
   on-command (Some w) ds ts h =
-      on-cond k Any (eqb (length ts) (arity w)) (arguments-of w ds head ts) (fault WordCount head) (on-arguments w ds ts h) at
+      on-cond k Any (eqb (length ts) (arity w)) (arguments-of w ds head ts) (fault WordCount head)
+      (on-arguments w ds ts h) at
 
   on-ordered-by : (r : Result Progress Refusal) (c : Command) → On k Any (ordered-by r c head)
   on-ordered-by (Ok p) c = tt
@@ -181,7 +185,11 @@ all-placed k (w ∷ ws) = (refl, all-placed k ws)
 
 on-line : (k : ℕ) (p : Progress) (bs : List ℕ) → On k Any (read-line k p bs)
 on-line k p bs =
-    on-cond k Any (ltb 80 (length bs)) (fault LongLine (record { line = k; byte = 81 })) (read-tokens p (line-tokens k bs)) refl
+    on-cond k Any (ltb 80 (length bs)) (fault LongLine (record {
+      line =
+          k;
+      byte = 81;
+    })) (read-tokens p (line-tokens k bs)) refl
     (on-tokens k p (line-tokens k bs) (all-placed k (words 1 bs)))
 
 told-by : (k : ℕ) (r : Result (Option Read) Fault) (f : Fault) → On k Any r → r ≡ Err f → f .place .line ≡ k

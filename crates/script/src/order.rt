@@ -11,7 +11,7 @@ const LOSES: u8 = 16;
 
 // How far a script has come.
 #[derive(Clone, Copy)]
-pub enum Stage {
+pub(crate) enum Stage {
     Bare,
     Cabled,
     Running,
@@ -28,7 +28,7 @@ pub struct Progress {
 
 impl Stage {
     // The stage after a command that may stand here.
-    pub fn after(self, command: Command) -> Option<Stage>
+    fn after(self, command: Command) -> Option<Stage>
         ensures { λ r. ⌜ r ≡ stage-after self command ⌝ }
     {
         match (self, command) {

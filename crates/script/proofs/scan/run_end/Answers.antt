@@ -8,12 +8,16 @@ use Rattle.script.proofs.scan.run_end.Needs as need
 
 pub loop-i-again : need.loop-i-again
 loop-i-again c =
-    let step = leading-drop-yes (in-run (c .args .run)) (c .args .text .now) (c .loop-i .i) 0 (omega arith) (sym (c .has .ensures) ∙ c .if-has .taken) in
+    let step =
+    leading-drop-yes (in-run (c .args .run)) (c .args .text .now) (c .loop-i .i) 0 (omega arith)
+    (sym (c .has .ensures) ∙ c .if-has .taken) in
     omega arith
 
 pub returns-else-has : need.returns-else-has
 returns-else-has c =
-    let end = leading-drop-no (in-run (c .args .run)) (c .args .text .now) (c .loop-i .i) 0 (omega arith) (sym (c .has .ensures) ∙ c .if-has .left) in
+    let end =
+    leading-drop-no (in-run (c .args .run)) (c .args .text .now) (c .loop-i .i) 0 (omega arith)
+    (sym (c .has .ensures) ∙ c .if-has .left) in
     omega arith
 
 pub returns-after-loop-i : need.returns-after-loop-i

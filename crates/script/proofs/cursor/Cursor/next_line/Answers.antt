@@ -18,19 +18,26 @@ ended s e = sym (ap (line-by s) e)
 pub returns-then-start-self : need.returns-then-start-self
 unfolding state
 returns-then-start-self c =
-    ended (state (c .args .self .now)) (ap lines (drop-all (c .args .self .now .at) (c .args .self .now .script .now) (c .if-start-self .taken)))
+    let cursor = c .args .self .now in
+    ended (state cursor) (ap lines (drop-all (cursor .at) (cursor .script .now) (c .if-start-self .taken)))
 
 pub ghost-self : need.ghost-self
 ghost-self c =
-    let within = run-within Line (c .args .self .now .script .now) (c .args .self .now .at) (c .args .self .now .inside) in
-    let counted = c .args .self .now .counted in
-    elim (c .if-end-self .came) [ then-end-self w ↦ (omega arith, (omega arith, tt)) | else-end-self w ↦ (omega arith, (omega arith, tt)) ]
+    let cursor = c .args .self .now in
+    let within = run-within Line (cursor .script .now) (cursor .at) (cursor .inside) in
+    let counted = cursor .counted in
+    elim (c .if-end-self .came) [
+      | then-end-self w ↦ (omega arith, (omega arith, tt))
+      | else-end-self w ↦ (omega arith, (omega arith, tt))
+    ]
 
 pub returns : need.returns
 unfolding state
 returns c =
+    let cursor = c .args .self .now in
     let one =
-    first-line (c .args .self .now .script .now) (c .args .self .now .at) (c .run-end-end .result) (c .if-end-self .self) (omega arith) (c .run-end-end .ensures)
+    first-line (cursor .script .now) (cursor .at) (c .run-end-end .result) (c .if-end-self .self) (omega arith)
+    (c .run-end-end .ensures)
     (λ lt. elim (c .if-end-self .came) [ then-end-self w ↦ omega arith | else-end-self w ↦ omega arith ])
     (λ le. elim (c .if-end-self .came) [ then-end-self w ↦ omega arith | else-end-self w ↦ omega arith ]) in
     rw one
