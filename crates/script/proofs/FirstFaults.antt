@@ -17,6 +17,7 @@ use Rattle.script.specs.Judged.{passed, FirstFault}
 use Rattle.script.specs.Line.{read-line}
 use Rattle.script.specs.Script.{before, commands-by, progress-by, commands-from}
 use Rattle.script.proofs.Places.{line-told}
+use Rattle.script.proofs.Never.{never}
 
 -- a line at fault is the first
 here : (n : ℕ) (p : Progress) (l : List ℕ) (ls : List (List ℕ)) (f : Fault) → read-line (n + 1) p l ≡ Err f
@@ -53,7 +54,7 @@ later-on n p l ls f x e h =
 
 by-fault : (x : Option Read) (r : Result (List Placed) Fault) (f : Fault) → commands-by x r ≡ Err f → r ≡ Err f
 by-fault None r f h = h
-by-fault (Some x) (Ok cs) f h = let z : _≡_ {A = ℕ} 0 1 = cc in absurd (let no-way : ⊥ = omega arith in no-way)
+by-fault (Some x) (Ok cs) f h = never (cc)
 by-fault (Some x) (Err e) f h = h
 
 first-fault-by : (n : ℕ) (p : Progress) (l : List ℕ) (ls : List (List ℕ)) (f : Fault) (r : Result (Option Read) Fault)
@@ -65,6 +66,6 @@ first-fault-by n p l ls f (Ok x) is h more =
 
 pub first-fault : (n : ℕ) (p : Progress) (ls : List (List ℕ)) (f : Fault) → commands-from n p ls ≡ Err f
     → FirstFault n p ls f
-first-fault n p [] f h = let z : _≡_ {A = ℕ} 0 1 = cc in absurd (let no-way : ⊥ = omega arith in no-way)
+first-fault n p [] f h = never (cc)
 first-fault n p (l ∷ ls) f h =
     first-fault-by n p l ls f (read-line (n + 1) p l) refl h (λ q e. first-fault (n + 1) q ls f e)

@@ -1,5 +1,6 @@
 pub mod FirstFaults
 pub mod Lines
+pub mod Never
 pub mod Orderly
 pub mod Parts
 pub mod Passes

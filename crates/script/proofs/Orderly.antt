@@ -35,6 +35,7 @@ use Rattle.script.specs.Order.{drained, stage-after, nothing-read, at-stage, o
 use Rattle.script.specs.Order.{noted, at-stage?, after}
 use Rattle.script.specs.Script.{before, commands-by, progress-by, commands-from}
 use Rattle.script.specs.Tokens.{Seen, line-tokens}
+use Rattle.script.proofs.Never.{never}
 
 -- commands that are accepted one after another
 abbrev Accepted : Progress → List Placed → Type 0
@@ -47,26 +48,26 @@ accepted-by : (q : Result Progress Refusal) (p : Progress) (c : Command) (place 
 accepted-by (Ok q) p c place x e h =
     let same : record { placed = record { command = c; place = place }; progress = q } ≡ x = cc in
     subst (λ (y : Read). after p (y .placed .command) ≡ Ok (y .progress)) same e
-accepted-by (Err r) p c place x e h = let z : _≡_ {A = ℕ} 0 1 = cc in absurd (let no-way : ⊥ = omega arith in no-way)
+accepted-by (Err r) p c place x e h = never (cc)
 
 accepted-command : (r : Result Command Fault) (p : Progress) (place : Place) (x : Read)
     → then r (λ c. ordered-by (after p c) c place) ≡ Ok x → after p (x .placed .command) ≡ Ok (x .progress)
 accepted-command (Ok c) p place x h = accepted-by (after p c) p c place x refl h
-accepted-command (Err e) p place x h = let z : _≡_ {A = ℕ} 0 1 = cc in absurd (let no-way : ⊥ = omega arith in no-way)
+accepted-command (Err e) p place x h = never (cc)
 
 some-read : (r : Result Read Fault) (x : Read) → then r (λ y. Ok (Some y)) ≡ Ok (Some x) → r ≡ Ok x
 some-read (Ok y) x h = let same : y ≡ x = cc in ap Ok same
-some-read (Err e) x h = let z : _≡_ {A = ℕ} 0 1 = cc in absurd (let no-way : ⊥ = omega arith in no-way)
+some-read (Err e) x h = never (cc)
 
 accepted-tokens : (p : Progress) (ts : List Seen) (x : Read) → read-tokens p ts ≡ Ok (Some x)
     → after p (x .placed .command) ≡ Ok (x .progress)
-accepted-tokens p [] x h = let z : _≡_ {A = ℕ} 0 1 = cc in absurd (let no-way : ⊥ = omega arith in no-way)
+accepted-tokens p [] x h = never (cc)
 accepted-tokens p (t ∷ ts) x h =
     accepted-command (command-of (p .directions) t ts) p (t .place) x (some-read (ordered p t ts) x h)
 
 accepted-line-by : (v : Bool) (f : Fault) (p : Progress) (ts : List Seen) (x : Read)
     → cond v (Err f) (read-tokens p ts) ≡ Ok (Some x) → after p (x .placed .command) ≡ Ok (x .progress)
-accepted-line-by true f p ts x h = let z : _≡_ {A = ℕ} 0 1 = cc in absurd (let no-way : ⊥ = omega arith in no-way)
+accepted-line-by true f p ts x h = never (cc)
 accepted-line-by false f p ts x h = accepted-tokens p ts x h
 
 accepted-line : (k : ℕ) (p : Progress) (bs : List ℕ) (x : Read) → read-line k p bs ≡ Ok (Some x)
@@ -78,14 +79,13 @@ accepted-line k p bs x h =
 before-ok : (c : Placed) (r : Result (List Placed) Fault) (cs : List Placed) → before c r ≡ Ok cs
     → (ds : List Placed) × ((r ≡ Ok ds) × (c ∷ ds ≡ cs))
 before-ok c (Ok ds) cs h = (ds, (refl, cc))
-before-ok c (Err e) cs h = let z : _≡_ {A = ℕ} 0 1 = cc in absurd (let no-way : ⊥ = omega arith in no-way)
+before-ok c (Err e) cs h = never (cc)
 
 accepted-from-by : (n : ℕ) (p : Progress) (l : List ℕ) (ls : List (List ℕ)) (cs : List Placed)
     (r : Result (Option Read) Fault) → read-line (n + 1) p l ≡ r
     → then r (λ x. commands-by x (commands-from (n + 1) (progress-by p x) ls)) ≡ Ok cs
     → ((q : Progress) (ds : List Placed) → commands-from (n + 1) q ls ≡ Ok ds → Accepted q ds) → Accepted p cs
-accepted-from-by n p l ls cs (Err e) is h more =
-    let z : _≡_ {A = ℕ} 0 1 = cc in absurd (let no-way : ⊥ = omega arith in no-way)
+accepted-from-by n p l ls cs (Err e) is h more = never (cc)
 accepted-from-by n p l ls cs (Ok None) is h more = more p cs h
 accepted-from-by n p l ls cs (Ok (Some x)) is h more =
     let b = before-ok (x .placed) (commands-from (n + 1) (x .progress) ls) cs h in
@@ -180,15 +180,13 @@ moved Page s t h = moved-run s t h
 -- nothing but a chain line stands first
 first-chain : (c : Command) (t : Stage) → stage-after Bare c ≡ Some t → is-chain c ≡ true
 first-chain (Chain links) t h = refl
-first-chain (Login link west east m n) t h =
-    let z : _≡_ {A = ℕ} 0 1 = cc in absurd (let no-way : ⊥ = omega arith in no-way)
-first-chain (Lose d kind first count) t h =
-    let z : _≡_ {A = ℕ} 0 1 = cc in absurd (let no-way : ⊥ = omega arith in no-way)
-first-chain (Inject end count) t h = let z : _≡_ {A = ℕ} 0 1 = cc in absurd (let no-way : ⊥ = omega arith in no-way)
-first-chain (Collect end count) t h = let z : _≡_ {A = ℕ} 0 1 = cc in absurd (let no-way : ⊥ = omega arith in no-way)
-first-chain (Step count) t h = let z : _≡_ {A = ℕ} 0 1 = cc in absurd (let no-way : ⊥ = omega arith in no-way)
-first-chain Drain t h = let z : _≡_ {A = ℕ} 0 1 = cc in absurd (let no-way : ⊥ = omega arith in no-way)
-first-chain Page t h = let z : _≡_ {A = ℕ} 0 1 = cc in absurd (let no-way : ⊥ = omega arith in no-way)
+first-chain (Login link west east m n) t h = never (cc)
+first-chain (Lose d kind first count) t h = never (cc)
+first-chain (Inject end count) t h = never (cc)
+first-chain (Collect end count) t h = never (cc)
+first-chain (Step count) t h = never (cc)
+first-chain Drain t h = never (cc)
+first-chain Page t h = never (cc)
 
 not-running : (a : Command) → reach a < 2 → runs a ≡ false
 not-running (Chain links) h = refl
@@ -291,7 +289,7 @@ module _ (p q : Progress) (low : Low (p .loses)) where
           λ d. at d .0 ∙ ap (λ (xs : List ℕ). getD xs d 0) loses,
         ),
       )
-  one-more e t false is h = let z : _≡_ {A = ℕ} 0 1 = cc in absurd (let no-way : ⊥ = omega arith in no-way)
+  one-more e t false is h = never (cc)
 
   left-by : (c : Command) (t : Stage) → noted c t p ≡ Ok q → (t ≡ q .stage) × Counted c (p .loses) (q .loses)
   left-by (Chain links) t h = (ap ok-stage h, kept (Chain links) (λ d. refl) (ap ok-loses h))
@@ -305,7 +303,7 @@ module _ (p q : Progress) (low : Low (p .loses)) where
 
   accepted-at : (c : Command) (o : Option Stage) → stage-after (p .stage) c ≡ o → at-stage? o c p ≡ Ok q
       → (stage-after (p .stage) c ≡ Some (q .stage)) × Counted c (p .loses) (q .loses)
-  accepted-at c None is h = let z : _≡_ {A = ℕ} 0 1 = cc in absurd (let no-way : ⊥ = omega arith in no-way)
+  accepted-at c None is h = never (cc)
   accepted-at c (Some t) is h = let l = left-by c t h in (is ∙ ap Some (l .0), l .1)
 
   accepted : (c : Command) → after p c ≡ Ok q

@@ -11,6 +11,7 @@ use Rattle.std.proofs.shelf.Tests.{eqb-true, eqb-false}
 use Rattle.std.specs.shelf.Lists.{All}
 use Rattle.script.specs.Laws.{LastLine, Lined, Apart, FirstWord, Parted}
 use Rattle.script.specs.Text.{Word, onto, lines, goes-on, attached, words}
+use Rattle.script.proofs.Never.{never}
 
 -- one byte more before the first line
 lined-onto : (b : ℕ) (bs : List ℕ) (ls : List (List ℕ)) → (b ≡ 10 → ⊥) → Lined bs ls → Lined (b ∷ bs) (onto b ls)
@@ -50,7 +51,7 @@ parted-space at b bs (w ∷ ws) e (f, h) =
 
 apart-by : (b : ℕ) (v : Bool) → eqb b 32 ≡ v → not v ≡ false → b ≡ 32
 apart-by b true e h = eqb-true b 32 e
-apart-by b false e h = let z : _≡_ {A = ℕ} 0 1 = cc in absurd (let no-way : ⊥ = omega arith in no-way)
+apart-by b false e h = never (cc)
 
 -- bytes that do not go on with a word
 apart-from : (bs : List ℕ) → goes-on bs ≡ false → Apart bs
@@ -58,12 +59,12 @@ apart-from [] h = tt
 apart-from (b ∷ bs) h = apart-by b (eqb b 32) refl h
 
 ink-by : (b : ℕ) (v : Bool) → eqb b 32 ≡ v → not v ≡ true → b ≡ 32 → ⊥
-ink-by b true e h = let z : _≡_ {A = ℕ} 0 1 = cc in absurd (let no-way : ⊥ = omega arith in no-way)
+ink-by b true e h = never (cc)
 ink-by b false e h = eqb-false b 32 e
 
 -- where bytes go on with a word, no gap stands before it
 no-spaces : (bs : List ℕ) → goes-on bs ≡ true → All (λ b. b ≡ 32) bs → ⊥
-no-spaces [] g h = let z : _≡_ {A = ℕ} 0 1 = cc in absurd (let no-way : ⊥ = omega arith in no-way)
+no-spaces [] g h = never (cc)
 no-spaces (b ∷ bs) g h = ink-by b (eqb b 32) refl g (h .0)
 
 no-gap : (bs gap more : List ℕ) → goes-on bs ≡ true → bs ≡ gap ++ more → All (λ b. b ≡ 32) gap → gap ≡ []

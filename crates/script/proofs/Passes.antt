@@ -17,6 +17,7 @@ use Rattle.script.specs.Faults.{then}
 use Rattle.script.specs.Line.{read-line}
 use Rattle.script.specs.Script.{State, Stepped, line-by, next-line, past-line, next-from, next}
 use Rattle.script.specs.Script.{before, commands-by, progress-by, commands-from, commands, first-then, ends}
+use Rattle.script.proofs.Never.{never}
 
 line-read-by : (s t : State) (ls : List (List ℕ)) (l : List ℕ) (r : Result (Option Read) Fault)
     → (Some l, t) ≡ line-by s ls → r ≡ read-line (t .done) (t .progress) l
@@ -68,13 +69,12 @@ Fewer k s = (c : Placed) → s .0 ≡ Ok (Some c) → length (s .1 .ahead) < k
 
 fewer-past : (t : State) (r : Result (Option Read) Fault) (onward : Stepped) (k : ℕ)
     → length (t .ahead) < k → Fewer k onward → Fewer k (past-line t r onward)
-fewer-past t (Err e) onward k h more c q =
-    let z : _≡_ {A = ℕ} 0 1 = cc in absurd (let no-way : ⊥ = omega arith in no-way)
+fewer-past t (Err e) onward k h more c q = never (cc)
 fewer-past t (Ok None) onward k h more c q = more c q
 fewer-past t (Ok (Some x)) onward k h more c q = h
 
 fewer-from : (n : ℕ) (p : Progress) (ls : List (List ℕ)) → Fewer (length ls) (next-from n p ls)
-fewer-from n p [] c q = let z : _≡_ {A = ℕ} 0 1 = cc in absurd (let no-way : ⊥ = omega arith in no-way)
+fewer-from n p [] c q = never (cc)
 fewer-from n p (l ∷ ls) c q =
     fewer-past (record { done = n + 1; progress = p; ahead = ls }) (read-line (n + 1) p l) (next-from (n + 1) p ls)
     (length (l ∷ ls)) (omega arith) (λ d e. let f = fewer-from (n + 1) p ls d e in omega arith) c q

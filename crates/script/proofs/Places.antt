@@ -35,6 +35,7 @@ use Rattle.script.specs.Line.{command-by, command-of, ordered-by, ordered, rea
 use Rattle.script.specs.Order.{after}
 use Rattle.script.specs.Text.{Word, words}
 use Rattle.script.specs.Tokens.{Kind, number, letter, other, Seen, placed, line-tokens}
+use Rattle.script.proofs.Never.{never}
 
 -- a fault on line k, or a result of which P holds
 abbrev On : {A : Type 0} → ℕ → (A → Type 0) → Result A Fault → Type 0
@@ -193,7 +194,7 @@ on-line k p bs =
     (on-tokens k p (line-tokens k bs) (all-placed k (words 1 bs)))
 
 told-by : (k : ℕ) (r : Result (Option Read) Fault) (f : Fault) → On k Any r → r ≡ Err f → f .place .line ≡ k
-told-by k (Ok x) f h e = let z : _≡_ {A = ℕ} 0 1 = cc in absurd (let no-way : ⊥ = omega arith in no-way)
+told-by k (Ok x) f h e = never (cc)
 told-by k (Err g) f h e = let same : g ≡ f = cc in subst (λ (x : Fault). x .place .line ≡ k) same h
 
 -- the line told with a fault is that of the line at fault

@@ -17,8 +17,11 @@ number refusal.OutOfRange = 19
 number refusal.OutOfOrder = 20
 number refusal.TooManyLoses = 21
 
+abbrev pub fault-at : Refusal → Place → Fault
+fault-at r p = record { refusal = r; place = p }
+
 abbrev pub fault : {A : Type 0} → Refusal → Place → Result A Fault
-fault r p = Err (record { refusal = r; place = p })
+fault r p = Err (fault-at r p)
 
 -- the first fault counts
 abbrev pub then : {A B : Type 0} → Result A Fault → (A → Result B Fault) → Result B Fault

@@ -34,10 +34,7 @@ impl Number {
         if low <= self.value && self.value <= high {
             return Ok(self.value);
         }
-        Err(Fault {
-            refusal: Refusal::OutOfRange,
-            place: self.place,
-        })
+        Err(self.place.fault(Refusal::OutOfRange))
     }
 
     // The value, if it lies below `limit`.
@@ -47,10 +44,7 @@ impl Number {
         if self.value < limit as u32 {
             return Ok(self.value as u8);
         }
-        Err(Fault {
-            refusal: Refusal::OutOfRange,
-            place: self.place,
-        })
+        Err(self.place.fault(Refusal::OutOfRange))
     }
 }
 
@@ -60,10 +54,9 @@ impl<'a> Token<'a> {
     {
         match self {
             Token::Number(_, value, place) => Ok(Number { value, place }),
-            Token::Letter(_, _, place) | Token::Word(_, place) => Err(Fault {
-                refusal: Refusal::NotNumber,
-                place,
-            }),
+            Token::Letter(_, _, place) | Token::Word(_, place) => Err(place.fault(
+                Refusal::NotNumber,
+            )),
         }
     }
 
@@ -71,10 +64,7 @@ impl<'a> Token<'a> {
     fn end(self) -> Result<End, Fault>
         ensures { λ r. ⌜ r ≡ as-end (seen (self .entry)) ⌝ }
     {
-        let fault = Fault {
-            refusal: Refusal::OutOfRange,
-            place: self.place(),
-        };
+        let fault = self.place().fault(Refusal::OutOfRange);
         match self {
             Token::Letter(_, letter, _) => End::from_letter(letter).ok_or(fault),
             _ => Err(fault),
@@ -85,10 +75,7 @@ impl<'a> Token<'a> {
     fn kind(self) -> Result<SymbolKind, Fault>
         ensures { λ r. ⌜ r ≡ as-kind (seen (self .entry)) ⌝ }
     {
-        let fault = Fault {
-            refusal: Refusal::OutOfRange,
-            place: self.place(),
-        };
+        let fault = self.place().fault(Refusal::OutOfRange);
         match self {
             Token::Letter(_, letter, _) => SymbolKind::from_letter(letter).ok_or(fault),
             _ => Err(fault),
@@ -104,10 +91,7 @@ impl<'a> Tokens<'a> {
     {
         match self.next() {
             Some(token) => Ok(token),
-            None => Err(Fault {
-                refusal: Refusal::WordCount,
-                place: head,
-            }),
+            None => Err(head.fault(Refusal::WordCount)),
         }
     }
 
@@ -127,10 +111,7 @@ fn parse_chain(mut tokens: Tokens<'_>, head: Place) -> Result<Command, Fault>
     match links.value {
         1 => Ok(Command::Chain(Links::One)),
         3 => Ok(Command::Chain(Links::Three)),
-        _ => Err(Fault {
-            refusal: Refusal::OutOfRange,
-            place: links.place,
-        }),
+        _ => Err(links.place.fault(Refusal::OutOfRange)),
     }
 }
 

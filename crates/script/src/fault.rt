@@ -1,5 +1,5 @@
 // Why a script is refused, and where.
-ghost use Rattle.script.specs.Faults.{number};
+ghost use Rattle.script.specs.Faults.{fault-at, number};
 ghost use mathlib.Core.Path.{_≡_};
 
 // A place in a script: line and byte in the line, both from 1.
@@ -35,6 +35,18 @@ impl Refusal {
         ensures { λ r. ⌜ r ≡ number self ⌝ }
     {
         self as u8
+    }
+}
+
+impl Place {
+    // A fault at this place.
+    pub fn fault(self, refusal: Refusal) -> Fault
+        ensures { λ r. ⌜ r ≡ fault-at refusal self ⌝ }
+    {
+        Fault {
+            refusal,
+            place: self,
+        }
     }
 }
 

@@ -31,16 +31,10 @@ fn parse_command(first: Token<'_>, tokens: Tokens<'_>, directions: u8) -> Result
 {
     let head = first.place();
     let Some(keyword) = Keyword::from_word(first.text()) else {
-        return Err(Fault {
-            refusal: Refusal::UnknownCommand,
-            place: head,
-        });
+        return Err(head.fault(Refusal::UnknownCommand));
     };
     if !tokens.has(keyword.arity()) {
-        return Err(Fault {
-            refusal: Refusal::WordCount,
-            place: head,
-        });
+        return Err(head.fault(Refusal::WordCount));
     }
     parse_arguments(keyword, tokens, directions, head)
 }
@@ -56,7 +50,7 @@ fn read_ordered(first: Token<'_>, tokens: Tokens<'_>, progress: Progress) -> Res
             placed: Placed { command, place },
             progress,
         }),
-        Err(refusal) => Err(Fault { refusal, place }),
+        Err(refusal) => Err(place.fault(refusal)),
     }
 }
 
@@ -74,10 +68,7 @@ pub(crate) fn read_line(text: &[u8], line: usize, progress: Progress) -> Result<
     ensures { λ r. ⌜ r ≡ read-line line progress (now (text .entry)) ⌝ }
 {
     if text.len() > LINE {
-        return Err(Fault {
-            refusal: Refusal::LongLine,
-            place: Place { line, byte: 81 },
-        });
+        return Err(Place { line, byte: 81 }.fault(Refusal::LongLine));
     }
     read_tokens(Tokens::new(text, line), progress)
 }

@@ -23,7 +23,7 @@ pub(crate) enum Stage {
 pub struct Progress {
     stage: Stage,
     pub(crate) directions: u8,
-    loses: [u8; 6],
+    loses: [u8; DIRECTIONS],
 }
 
 impl Stage {
@@ -55,7 +55,7 @@ impl Progress {
         Progress {
             stage: Stage::Bare,
             directions: 6,
-            loses: [0; 6],
+            loses: [0; DIRECTIONS],
         }
     }
 
@@ -71,6 +71,7 @@ impl Progress {
         Ok(self)
     }
 
+    // What a command adds at its stage.
     fn note(self, command: Command, stage: Stage) -> Result<Progress, Refusal>
         ensures { λ r. ⌜ r ≡ noted command stage self ⌝ }
     {

@@ -74,10 +74,7 @@ pub fn check(script: &[u8]) -> Result<(), Fault>
     ensures law { λ _. ⌜ Judged (now (script .entry)) (verdict (now (script .entry))) ⌝ }
 {
     if script.len() > SCRIPT {
-        return Err(Fault {
-            refusal: Refusal::TooLong,
-            place: Place { line: 0, byte: 0 },
-        });
+        return Err(Place { line: 0, byte: 0 }.fault(Refusal::TooLong));
     }
     let mut cursor = Cursor::new(script);
     'commands: while let Some(_) = cursor.next_command()? {}
