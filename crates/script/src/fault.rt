@@ -40,7 +40,7 @@ impl Refusal {
 
 impl Place {
     // A fault at this place.
-    pub fn fault(self, refusal: Refusal) -> Fault
+    pub(crate) fn fault(self, refusal: Refusal) -> Fault
         ensures { λ r. ⌜ r ≡ fault-at refusal self ⌝ }
     {
         Fault {

@@ -34,7 +34,7 @@ impl<'a> Token<'a> {
         }
     }
 
-    pub fn place(self) -> Place
+    pub(crate) fn place(self) -> Place
         ensures { λ r. ⌜ r ≡ seen (self .entry) .place ⌝ }
     {
         match self {
@@ -44,7 +44,7 @@ impl<'a> Token<'a> {
         }
     }
 
-    pub fn text(self) -> &'a [u8]
+    pub(crate) fn text(self) -> &'a [u8]
         ensures { λ r. ⌜ now r ≡ seen (self .entry) .text ⌝ }
     {
         match self {
@@ -90,7 +90,7 @@ impl<'a> Tokens<'a> {
     }
 
     // Whether just `count` tokens are left.
-    pub fn has(self, count: u8) -> bool
+    pub(crate) fn has(self, count: u8) -> bool
         ensures { λ r. ⌜ r ≡ eqb (length (left (self .entry))) count ⌝ }
     {
         let mut tokens = self;
