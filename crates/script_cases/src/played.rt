@@ -1,60 +1,55 @@
 // Scripts that may be played.
 
-use crate::told::check_all;
-use crate::told::played;
+use crate::told::check_played;
 use crate::told::repeated;
 use crate::told::told;
 use std::test::*;
 
 #[test]
 fn without_commands() -> Result<(), Fail> {
-    check_all(
+    check_played(
         &[
-            played(b""),
-            played(b"\n"),
-            played(b"\n  \n   \n"),
-            played(b"   "),
-            played(&[b' '; 80]),
-            played(&[b'\n'; 16_384]),
+            b"",
+            b"\n",
+            b"\n  \n   \n",
+            b"   ",
+            &[b' '; 80],
+            &[b'\n'; 16_384],
         ],
     )
 }
 
 #[test]
 fn with_commands() -> Result<(), Fail> {
-    check_all(
+    check_played(
         &[
-            played(b"chain 1\nlogin 0 2 2 1 1\nlose 0 f 1 1\ninject w 3\nstep 6\npage\n"),
-            played(b"chain 1\ninject w 1\nstep 2\ncollect e 1\nstep 2\npage\n"),
-            played(b"chain 1\n"),
-            played(b"chain 3\nlogin 0 2 2 1 1\nlose 5 c 1 1\n"),
-            played(b"chain 1\npage"),
-            played(b"chain 3\npage\n"),
-            played(b"chain 1\nstep 00000001\n"),
-            played(b"chain 1\nstep 1 \n"),
-            played(b"\n\n   chain   3   \n\n"),
-            played(b"chain 00000001\n"),
-            played(b"chain 1\ndrain\ncollect w 1\nstep 10000\npage\n"),
-            played(b"chain 1\nlogin 99999999 0 00000000 99999999 7\n"),
-            played(b"chain 3\nlose 0 r 99999999 1\nlose 3 s 1 99999999\n"),
-            played(b"chain 1\ninject e 1000\ncollect w 1000\n"),
+            b"chain 1\nlogin 0 2 2 1 1\nlose 0 f 1 1\ninject w 3\nstep 6\npage\n",
+            b"chain 1\ninject w 1\nstep 2\ncollect e 1\nstep 2\npage\n",
+            b"chain 1\n",
+            b"chain 3\nlogin 0 2 2 1 1\nlose 5 c 1 1\n",
+            b"chain 1\npage",
+            b"chain 3\npage\n",
+            b"chain 1\nstep 00000001\n",
+            b"chain 1\nstep 1 \n",
+            b"\n\n   chain   3   \n\n",
+            b"chain 00000001\n",
+            b"chain 1\ndrain\ncollect w 1\nstep 10000\npage\n",
+            b"chain 1\nlogin 99999999 0 00000000 99999999 7\n",
+            b"chain 3\nlose 0 r 99999999 1\nlose 3 s 1 99999999\n",
+            b"chain 1\ninject e 1000\ncollect w 1000\n",
             // calls that are refused only when the script runs
-            played(b"chain 1\nlogin 256 1 1 0 0\n"),
-            played(b"chain 1\n  inject w 33\n"),
+            b"chain 1\nlogin 256 1 1 0 0\n",
+            b"chain 1\n  inject w 33\n",
         ],
     )
 }
 
 #[test]
 fn longest_line() -> Result<(), Fail> {
-    check_all(
+    check_played(
         &[
-            played(
-                b"chain 1\n                                                                            page\n",
-            ),
-            played(
-                b"chain 1                                                                         \n",
-            ),
+            b"chain 1\n                                                                            page\n",
+            b"chain 1                                                                         \n",
         ],
     )
 }

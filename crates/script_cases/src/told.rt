@@ -6,32 +6,6 @@ use std::alloc::Global;
 use std::test::Fail;
 use std::test::check_eq;
 
-#[derive(Clone, Copy)]
-pub(crate) struct Case<'a> {
-    script: &'a [u8],
-    refusal: u8,
-    line: usize,
-    byte: usize,
-}
-
-pub(crate) fn played<'a>(script: &'a [u8]) -> Case<'a> {
-    Case {
-        script,
-        refusal: 0,
-        line: 0,
-        byte: 0,
-    }
-}
-
-pub(crate) fn refused<'a>(script: &'a [u8], refusal: u8, line: usize, byte: usize) -> Case<'a> {
-    Case {
-        script,
-        refusal,
-        line,
-        byte,
-    }
-}
-
 pub(crate) fn told(script: &[u8]) -> (u8, usize, usize) {
     match check(script) {
         Ok(()) => (0, 0, 0),
@@ -39,9 +13,18 @@ pub(crate) fn told(script: &[u8]) -> (u8, usize, usize) {
     }
 }
 
-pub(crate) fn check_all(cases: &[Case]) -> Result<(), Fail> {
-    for case in cases {
-        check_eq(told(case.script), (case.refusal, case.line, case.byte))?;
+// Each script with what is told of it.
+pub(crate) fn check_all(cases: &[(&[u8], u8, usize, usize)]) -> Result<(), Fail> {
+    for &(script, refusal, line, byte) in cases {
+        check_eq(told(script), (refusal, line, byte))?;
+    }
+    Ok(())
+}
+
+// Scripts that may be played.
+pub(crate) fn check_played(scripts: &[&[u8]]) -> Result<(), Fail> {
+    for script in scripts {
+        check_eq(told(script), (0, 0, 0))?;
     }
     Ok(())
 }
