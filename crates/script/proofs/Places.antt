@@ -30,7 +30,7 @@ use Rattle.script.specs.Arguments.{number-by, as-number, letter-by, as-letter,
 use Rattle.script.specs.Arguments.{taken, taken-number, chain-by, chain-of, login-of, lose-of, frames-of, inject-of}
 use Rattle.script.specs.Arguments.{collect-of, step-of, arguments-of}
 use Rattle.script.specs.Commands.{keyword-of, arity, end-with}
-use Rattle.script.specs.Faults.{fault, then}
+use Rattle.script.specs.Faults.{fault-at, fault, then}
 use Rattle.script.specs.Line.{command-by, command-of, ordered-by, ordered, read-tokens, read-line}
 use Rattle.script.specs.Order.{after}
 use Rattle.script.specs.Text.{Word, words}
@@ -106,7 +106,7 @@ module _ (k : ℕ) (head : Place) (at : head .line ≡ k) where
   on-below limit n h = on-cond k Any (ltb (n .value) limit) (Ok (n .value)) (fault OutOfRange (n .place)) tt h
 
   on-letter : {A : Type 0} (f : ℕ → Option A) (t : Seen) → Token-on k t → On k Any (as-letter f t)
-  on-letter f t h = on-ok-or k (letter-by f (t .kind)) (record { refusal = OutOfRange; place = t .place }) h
+  on-letter f t h = on-ok-or k (letter-by f (t .kind)) (fault-at OutOfRange (t .place)) h
 
   on-chain : (ts : List Seen) → All (Token-on k) ts → On k Any (chain-of head ts)
   on-chain ts h =

@@ -22,7 +22,7 @@ use Rattle.script.specs.declared.fault.Place.{Place}
 use Rattle.script.specs.declared.fault.Refusal.the-variants.{NotNumber, WordCount, OutOfRange}
 use Rattle.script.specs.declared.token.Token.{Token}
 use Rattle.script.specs.Commands.{end-with}
-use Rattle.script.specs.Faults.{fault, then}
+use Rattle.script.specs.Faults.{fault-at, fault, then}
 use Rattle.script.specs.Tokens.{Kind, number, letter, other, Seen, seen}
 
 -- a token as a number
@@ -41,7 +41,7 @@ letter-by f (letter c) = f c
 letter-by f other = None
 
 abbrev pub as-letter : {A : Type 0} → (ℕ → Option A) → Seen → Result A Fault
-as-letter f t = okOr (letter-by f (t .kind)) (record { refusal = OutOfRange; place = t .place })
+as-letter f t = okOr (letter-by f (t .kind)) (fault-at OutOfRange (t .place))
 
 abbrev pub as-end : Seen → Result End Fault
 as-end t = as-letter end-with t
