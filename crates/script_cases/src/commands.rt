@@ -42,7 +42,7 @@ fn end_number(end: End) -> u32 {
 #[test]
 fn every_command() -> Result<(), Fail> {
     let script =
-        b"chain 3\n\n login 2 31 32 14 15\nlose 5 s 7 00000012\n\n  inject e 1000\nstep 10000\ncollect w 9\npage\ndrain";
+        b"chain 3\n\n login 2 31 32 14 15\nlose 5 s 7 012\n\n  inject e 1000\nstep 10000\ncollect w 9\npage\ndrain";
     let read = [
         (1, [3, 0, 0, 0, 0], 1, 1),
         (2, [2, 31, 32, 14, 15], 3, 2),
