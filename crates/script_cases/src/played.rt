@@ -37,9 +37,28 @@ fn with_commands() -> Result<(), Fail> {
             b"chain 1\nlogin 99999999 0 00000000 99999999 7\n",
             b"chain 3\nlose 0 r 99999999 1\nlose 3 s 1 99999999\n",
             b"chain 1\ninject e 1000\ncollect w 1000\n",
-            // calls that are refused only when the script runs
+        ],
+    )
+}
+
+// Calls that are refused only when the script runs.
+#[test]
+fn refused_when_run() -> Result<(), Fail> {
+    check_played(
+        &[
+            b"chain 1\nlogin 1 1 1 0 0\n",
             b"chain 1\nlogin 256 1 1 0 0\n",
+            b"chain 1\nlogin 0 0 1 0 0\n",
+            b"chain 1\nlogin 0 257 1 0 0\n",
+            b"chain 1\nlogin 0 33 1 16 0\n",
+            b"chain 1\nlogin 0 1 1 0 16\n",
+            b"chain 1\nlogin 0 1 1 1 2\n",
+            b"chain 1\ninject w 33\n",
             b"chain 1\n  inject w 33\n",
+            b"chain 1\ncollect e 1\n",
+            b"chain 1\ndrain\ncollect w 1\n",
+            b"chain 1\nlogin 0 2 2 0 0\ninject w 2\nstep 3\ncollect e 3\n",
+            b"chain 1\nstep 10000\nstep 10000\n",
         ],
     )
 }
