@@ -1,0 +1,4 @@
+pub mod Carried
+pub mod OneLaws
+pub mod Routes
+pub mod PairLaws

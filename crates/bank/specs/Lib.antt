@@ -1,0 +1,3 @@
+pub mod Bank
+pub mod Banks
+pub mod States

@@ -1,0 +1,4 @@
+pub mod Queues
+pub mod WireLaws
+pub mod Waiting
+pub mod DelayLaws

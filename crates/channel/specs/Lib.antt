@@ -1,0 +1,5 @@
+pub mod Calls
+pub mod Wire
+pub mod Timed
+pub mod Delay
+pub mod States

@@ -1,0 +1,4 @@
+pub mod Script
+pub mod Counts
+pub mod Loss
+pub mod States
