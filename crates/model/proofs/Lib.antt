@@ -1,0 +1,16 @@
+pub mod Accounts
+pub mod Banks
+pub mod Told
+pub mod Cuts
+pub mod Lists
+pub mod Links
+pub mod InStep
+pub mod Loop
+pub mod Records
+pub mod Places
+pub mod Kept
+pub mod Calls
+pub mod Bounds
+pub mod Runs
+pub mod Ways
+pub mod Laws
