@@ -20,18 +20,38 @@ use Rattle.bank.specs.Bank.{BankCalls, LawfulBank}
 use Rattle.model.specs.Port.{Port, Turn, new-port, logged-in, with-buffers, is-full, frame-held, credit-back, received, has-sent, after-send, unsent, emptied, sent-on, lent-out, handed-out, among, without, returned, released, injected-at, next-frame, freed-of}
 use Rattle.model.specs.Chain.{sent, Chain, behind, facing, port-of, with-port, with-bank, is-end, takes-item, takes, drawn, sends-symbol, sends, each-port, ticked, stepped}
 use Rattle.symbol.specs.declared.Frame.{Frame}
-use Rattle.model.specs.Laws.{Within, Bounded}
+use Rattle.model.specs.Chain.{last-tick, outbox-places}
 use Rattle.model.proofs.Links.{Still, takes-still, sends-still, takes-links, sends-links, each-links, each-tick}
 use Rattle.symbol.specs.declared.Symbol.the-variants as symbol
 use Rattle.symbol.specs.declared.Mark.the-variants.{BbScS, BbScR}
 use Rattle.channel.specs.Calls.{handed}
 use Rattle.model.specs.Chain.{sound}
 
+-- the numbers of a port that has taken at most `took` items and sent at most `sent` symbols
+pub record Within (took sent : ℕ) (s : Port) : Type 0 where
+  pub buffers : s .buffers .all ≤ 32
+  pub limit : s .credit .limit ≤ 32
+  pub n : s .n ≤ 15
+  pub injected : s .outbox .injected ≤ sent + length (s .outbox .frames)
+  pub outbox : length (s .outbox .frames) ≤ outbox-places
+  pub frames-lost : s .frames-in .lost ≤ took
+  pub rrdys-lost : s .rrdys-in .lost ≤ took
+  pub handed : s .buffers .handed + length (s .buffers .waiting) ≤ took
+
+-- in a step each port takes at most one item and sends at most one symbol
+pub record Bounded {B : Type 0} (c : Chain B) : Type 0 where
+  pub links : c .links ≤ 8
+  pub tick : c .tick ≤ last-tick
+  pub ports : (p : ℕ) → Within (c .tick) (c .tick) (port-of c p)
+
 pub later : {m n i j : ℕ} (s : Port) → m ≤ i → n ≤ j → Within m n s → Within i j s
 later s z w h = omega (arith, z, w, h)
 
-pub fresh-within : (m n a b k : ℕ) → Within m n (logged-in a b k)
-fresh-within m n a b k = omega arith
+pub fresh-within : (m n a b k : ℕ) → a ≤ 32 → b ≤ 32 → k ≤ 15 → Within m n (logged-in a b k)
+fresh-within m n a b k x y z = omega (arith, x, y, z)
+
+pub new-port-within : (m n : ℕ) → Within m n new-port
+new-port-within m n = fresh-within m n 1 1 0 (omega arith) (omega arith) (omega arith)
 
 tail-most : (ks : List Frame) → (length ks ≤ length (tail ks) + 1) × (length (tail ks) ≤ length ks)
 tail-most [] = (omega arith, omega arith)
@@ -195,7 +215,12 @@ module _ {B : Type 0} (M : BankCalls B) where
       go None = after-within m n c p None q h
       go (Some y) = drawn-off m n (with-bank (with-port c p (after-send (port-of c p) (Some y))) (M .put (c .bank) p (sound y))) p y q d (after-within m n c p (Some y) q h)
 
-  pub step-bounded : (c : Chain B) → c .tick < 16777215 → Bounded c → Bounded (stepped M c .state)
+  pub stepped-tick : (c : Chain B) → stepped M c .state .tick ≡ c .tick + 1
+  stepped-tick c =
+      each-tick (sends M) (sends-still M) (each-port (takes M) (2 * c .links) (ticked M c .state) .state) (2 * c .links)
+      ∙ each-tick (takes M) (takes-still M) (ticked M c .state) (2 * c .links)
+
+  pub step-bounded : (c : Chain B) → c .tick < last-tick → Bounded c → Bounded (stepped M c .state)
   step-bounded c early h = record { links = omega (arith, h .links, links); tick = omega (arith, tick, early); ports = λ q. later (port-of (stepped M c .state) q) (omega (arith, tick)) (omega (arith, tick)) (sent-all q) }
     where
       taken : Chain B
@@ -205,7 +230,7 @@ module _ {B : Type 0} (M : BankCalls B) where
       links = each-links (sends M) (sends-links M) taken (2 * c .links) ∙ each-links (takes M) (takes-links M) (ticked M c .state) (2 * c .links)
 
       tick : stepped M c .state .tick ≡ c .tick + 1
-      tick = each-tick (sends M) (sends-still M) taken (2 * c .links) ∙ each-tick (takes M) (takes-still M) (ticked M c .state) (2 * c .links)
+      tick = stepped-tick c
 
       taken-all : (q : ℕ) → Within (c .tick + 1) (c .tick) (port-of (each-port (takes M) (2 * c .links) (ticked M c .state) .state) q)
       taken-all = each-all (Within (c .tick) (c .tick)) (Within (c .tick + 1) (c .tick)) (takes M) (λ s z. taken-later (c .tick) (c .tick) s z) (takes-own (c .tick) (c .tick)) (takes-off (Within (c .tick) (c .tick))) (takes-off (Within (c .tick + 1) (c .tick)))

@@ -1,8 +1,10 @@
 -- The laws of every run.
 use mathlib.Core.Path.{_≡_, refl, sym, ap, subst, _∙_}
 use mathlib.Core.List.{List, [], _∷_, _++_, append-nil}
-use Prim.Native.Nat.{ℕ, zero, suc, _+_, _*_, _<_, min}
+use Prim.Native.Nat.{ℕ, zero, suc, _+_, _*_, _^_, _<_, min}
+use native.Mathlib.Nat.{mod-lt}
 use native.Mathlib.Omega.{arith}
+use lib.Pow.{pow-pos}
 use lib.ListN.{length, length-append}
 use Rattle.symbol.specs.declared.Frame.{Frame}
 use Rattle.symbol.specs.declared.Symbol.{Symbol}
@@ -15,10 +17,10 @@ use Rattle.model.specs.Port.{Turn, no-act}
 use Rattle.model.specs.Chain.{Chain, facing, port-of, end-port, port-at-end, logins, injects, steps, collects, releases}
 use Rattle.model.specs.Run.{Log, Phase, Moving, Run, is-cabled, is-running, is-draining}
 use Rattle.model.specs.Run.{login, start, inject, step, collect, release, drain}
-use Rattle.model.specs.Figures.{Stream, Frames, RRdys, reported-lost, made-good, puts, injected, collected}
+use Rattle.model.specs.Figures.{Stream, Frames, RRdys, reported-lost, made-good, puts, injected, collected, ticks}
 use Rattle.model.specs.Stretches.{taken, taken-symbols, stretches, cut, nothing-put, lost-in, good-among}
-use Rattle.model.specs.Laws.{on, times, numbers, up-to, over-links, Each, WholePart, CreditSum, NoneInVain, WholeParts}
-use Rattle.model.specs.Laws.{OnePlace, RecordsTell, EndsTell, taker, way-lost, way-reported, opposite, hop, places, Bounded, Holds}
+use Rattle.model.specs.Laws.{on, times, numbers, up-to, over-links, Each, WholePart, CreditSum, AlwaysRoom, WholeParts}
+use Rattle.model.specs.Laws.{OnePlace, RecordsTell, EndsTell, taker, way-lost, way-reported, opposite, hop, places, PortInBounds, InBounds, Holds}
 use Rattle.model.specs.Laws.{EveryRun, Continues}
 use Rattle.model.proofs.Accounts.{Account, Losses, account}
 use Rattle.model.proofs.InStep.{Wholes}
@@ -28,7 +30,8 @@ use Rattle.model.proofs.Told.{told}
 use Rattle.model.proofs.Cuts.{SameLosses, put-stretches}
 use Rattle.model.proofs.Places.{facing-back, facing-below, facing-is, end-below}
 use Rattle.model.proofs.Kept.{Invariant}
-use Rattle.model.proofs.Runs.{run-invariant, run-bounded}
+use Rattle.model.proofs.Bounds.{Bounded}
+use Rattle.model.proofs.Runs.{run-invariant, run-bounded, run-ticks}
 use Rattle.model.proofs.Ways.{times-often, up-to-in, up-to-out, how-often, places-are, collected-in-order, hop-below}
 
 -- a figure that has not come to the largest is exact
@@ -53,7 +56,7 @@ links-same f g zero h = refl
 links-same f g (suc n) h = omega (arith, links-same f g n (λ i z. h i (omega arith)), h n (omega arith))
 
 module _ {B : Type 0} (M : BankCalls B) (law : (b : B) → LawfulBank M b) where
-  module _ (c : Chain B) (l : Log) (h : Invariant M c l) (few : Bounded c) where
+  module _ (c : Chain B) (l : Log) (h : Invariant M c l) (few : Bounded c) (timed : c .tick ≡ ticks l) where
     -- the loop in which port p sends frames, and the one in which it takes them
     sends-in : (p : ℕ) → p < 2 * c .links → Loop (port-of c p) (port-of c (facing p)) (on M c p) (on M c (facing p)) (account p l) (account (facing p) l)
     sends-in p lt = h .loops p (facing p) lt refl
@@ -73,8 +76,8 @@ module _ {B : Type 0} (M : BankCalls B) (law : (b : B) → LawfulBank M b) where
           rrdys-good = omega (arith, sends-in p lt .rrdys .good, s .rrdys-lost, s .rrdys-good);
         }
 
-    none-in-vain : NoneInVain (λ p. port-of c p .buffers .all) l
-    none-in-vain = record {
+    always-room : AlwaysRoom (λ p. port-of c p .buffers .all) l
+    always-room = record {
       frames = λ before after p f e.
           let t = told p before in
           omega (
@@ -101,9 +104,10 @@ module _ {B : Type 0} (M : BankCalls B) (law : (b : B) → LawfulBank M b) where
         sym (told p l .puts-are) ∙ sends-in p lt .order ∙ ap {B = List Symbol} (λ z. z ++ on M c p) (told (facing p) l .taken-are)
 
     -- the whole parts of the account are those of the stretches of the puts
-    wholes : (p : ℕ) (k : Stream) (x : Losses) → Wholes (port-of c p .n) x → x .lost ≡ reported-lost k (facing p) l → x .good ≡ made-good k (facing p) l
+    wholes : (p : ℕ) (k : Stream) (x : Losses) → port-of c p .n ≡ port-of c (facing p) .n → Wholes (port-of c p .n) x → x .lost ≡ reported-lost k (facing p) l → x .good ≡ made-good k (facing p) l
         → SameLosses (x .cut) (stretches k p l) → WholeParts M c l p k
-    wholes p k x w lost good same = record {
+    wholes p k x n w lost good same = record {
+      same-n = n;
       each = subst (Each (WholePart (port-of c p .n))) (sym (same .ended)) (w .each);
       all-lost = sym lost ∙ w .all-lost ∙ (λ i. sym (same .lost) i + lost-in (sym (same .ended) i));
       all-good = sym good ∙ w .all-good ∙ ap good-among (sym (same .ended));
@@ -112,12 +116,12 @@ module _ {B : Type 0} (M : BankCalls B) (law : (b : B) → LawfulBank M b) where
     whole-parts : (p : ℕ) (k : Stream) → p < 2 * c .links → WholeParts M c l p k
     whole-parts p Frames lt =
         let q = told (facing p) l in
-        wholes p Frames (account (facing p) l .frames .losses) (sends-in p lt .frames .ended) (q .frames-lost) (q .frames-good)
+        wholes p Frames (account (facing p) l .frames .losses) (sends-in p lt .figures .same-n) (sends-in p lt .frames .ended) (q .frames-lost) (q .frames-good)
         (put-stretches Frames (puts p l) (taken (facing p) l) (on M c p) (account (facing p) l .frames .losses .cut) (in-turn p lt)
         (ap (cut Frames nothing-put) (sym (q .takes-are)) ∙ h .cuts (facing p) (facing-below (c .links) p (facing p) refl lt) .frames))
     whole-parts p RRdys lt =
         let q = told (facing p) l in
-        wholes p RRdys (account (facing p) l .rrdys .losses) (subst (λ (n : ℕ). Wholes n (account (facing p) l .rrdys .losses)) (takes-in p lt .figures .same-n) (takes-in p lt .rrdys .ended)) (q .rrdys-lost) (q .rrdys-good)
+        wholes p RRdys (account (facing p) l .rrdys .losses) (sends-in p lt .figures .same-n) (subst (λ (n : ℕ). Wholes n (account (facing p) l .rrdys .losses)) (takes-in p lt .figures .same-n) (takes-in p lt .rrdys .ended)) (q .rrdys-lost) (q .rrdys-good)
         (put-stretches RRdys (puts p l) (taken (facing p) l) (on M c p) (account (facing p) l .rrdys .losses .cut) (in-turn p lt)
         (ap (cut RRdys nothing-put) (sym (q .takes-are)) ∙ h .cuts (facing p) (facing-below (c .links) p (facing p) refl lt) .rrdys))
 
@@ -163,20 +167,43 @@ module _ {B : Type 0} (M : BankCalls B) (law : (b : B) → LawfulBank M b) where
       lost-is = links-same _ _ (c .links) (λ i z. records-tell (taker M c e i) (taker-below e i z) .frames-lost);
     }
 
+    in-bounds : (p : ℕ) → p < 2 * c .links → PortInBounds (c .tick) (port-of c p)
+    in-bounds p lt = let t = told p l in let r = records-tell p lt in let w = few .ports p in record {
+      buffers = w .buffers;
+      limit = w .limit;
+      n = w .n;
+      used = sends-in p lt .figures .within;
+      room = omega (arith, takes-in p lt .figures .sum, takes-in p lt .figures .within, takes-in p lt .figures .limit-is, takes-in p lt .frames .good, takes-in p lt .rrdys .good);
+      stocked = h .stocked p lt .0;
+      frames-sent = subst (λ (z : ℕ). z < 2 ^ port-of c p .n) (sym (sends-in p lt .frames .sent-is)) (mod-lt _ (pow-pos (port-of c p .n)));
+      frames-got = subst (λ (z : ℕ). port-of c p .frames-in .got < 2 ^ z) (takes-in p lt .figures .same-n) (takes-in p lt .frames .below);
+      rrdys-sent = subst (λ (z : ℕ). port-of c p .rrdys-out .sent < 2 ^ z) (takes-in p lt .figures .same-n)
+          (subst (λ (z : ℕ). z < 2 ^ port-of c (facing p) .n) (sym (takes-in p lt .rrdys .sent-is)) (mod-lt _ (pow-pos (port-of c (facing p) .n))));
+      rrdys-got = sends-in p lt .rrdys .below;
+      outbox = w .outbox;
+      injected = omega (arith, w .injected, w .outbox);
+      collected = omega (arith, w .handed);
+      frames-lost = w .frames-lost;
+      rrdys-lost = w .rrdys-lost;
+      frames-good = omega (arith, takes-in p lt .frames .good, r .frames-lost, r .frames-good, t .frames-lost, t .frames-good);
+      rrdys-good = omega (arith, sends-in p lt .rrdys .good, r .rrdys-lost, r .rrdys-good, t .rrdys-lost, t .rrdys-good);
+    }
+
     holds : Holds M c l
     holds = record {
       credit-sum = credit-sum;
-      none-in-vain = none-in-vain;
+      always-room = always-room;
       in-turn = in-turn;
       whole-parts = whole-parts;
       one-place = one-place;
       records-tell = records-tell;
       ends-tell = ends-tell;
-      bounded = few;
+      tick-is = timed;
+      in-bounds = record { links = few .links; tick = few .tick; ports = in-bounds };
     }
 
   pub every-run : (b : B) → EveryRun M b
-  every-run b ph c l r = holds c l (run-invariant M law b ph c l r) (run-bounded M law r)
+  every-run b ph c l r = holds c l (run-invariant M law b ph c l r) (run-bounded M law r) (run-ticks M law r)
 
   -- each call continues every run: from c to c′ by turn t
   onward : (ph ph′ : Phase) (c c′ : Chain B) (t : Turn (Chain B)) → c′ ≡ t .state → ((b : B) (l : Log) → Run M b ph c l → Run M b ph′ (t .state) (l ++ t .events)) → Continues M ph ph′ c c′ (t .events)

@@ -11,6 +11,8 @@ pub mod Places
 pub mod Kept
 pub mod Calls
 pub mod Bounds
+pub mod Sizes
 pub mod Runs
 pub mod Ways
 pub mod Laws
+pub mod Computed

@@ -1,7 +1,7 @@
 -- Every run, from the cabling on.
 use mathlib.Core.Path.{_≡_, refl, sym, ap, subst, _∙_}
 use mathlib.Core.Logic.{_⊎_, inl, inr, _≢_}
-use mathlib.Core.Bool.{Bool, true, false, cond}
+use mathlib.Core.Bool.{Bool, true, false, cond, _||_}
 use mathlib.Core.List.{List, [], _∷_, _++_, append-nil}
 use Prim.Native.Nat.{ℕ, zero, suc, _+_, _-_, _*_, _/_, _%_, _^_, _≤_, _<_}
 use native.Mathlib.Nat.{le-refl, zero-mod}
@@ -13,7 +13,7 @@ use Rattle.std.specs.declared.option.Option.{Option}
 use Rattle.std.specs.declared.option.Option.the-variants.{Some, None}
 use Rattle.std.specs.declared.result.Result.{Result}
 use Rattle.std.specs.declared.result.Result.the-variants.{Ok, Err}
-use Rattle.std.proofs.shelf.Tests.{false≢true, eqb-true, eqb-false, cases-eq, leb-true, leb-false, and-parts}
+use Rattle.std.proofs.shelf.Tests.{false≢true, eqb-true, eqb-false, cases-eq, leb-true, leb-false, and-parts, or-parts, ltb-false}
 use Rattle.ring.specs.Queue.{head?, tail, empty}
 use Rattle.model.specs.declared.End.{End}
 use Rattle.symbol.specs.declared.Item.{Item}
@@ -24,20 +24,23 @@ use Rattle.bank.specs.Bank.{BankCalls, LawfulBank, count}
 use Rattle.model.specs.Port.{freed-of}
 use Rattle.model.specs.Chain.{injected, call-bytes, last-tick}
 use Rattle.model.specs.Run.{new, login, start, inject, step, collect, release, drain}
+use Rattle.model.specs.Figures.{ticks, tick-in}
 use Rattle.model.proofs.Records.{AllMeetRoom}
+use Rattle.model.proofs.Sizes.{total-append, step-ticks}
+use Rattle.model.proofs.Bounds.{stepped-tick}
 use Rattle.model.specs.Run.{Log}
 use Rattle.model.proofs.Accounts.{account, no-account}
 use Rattle.model.specs.Port.{Port, Turn, no-act, among, without, handed-out, released, injected-at, logged-in, new-port}
 use Rattle.model.specs.Chain.{Chain, facing, port-of, with-port, end-port, all-idle, cabled-links, cabled, stepped, from-oldest, collectable, collects-by, collects, released-at, logs-in, logins, step-refusal, inject-refusal, release-refusal, login-refusal, unless-refused}
 use Rattle.model.specs.Run.{Phase, is-cabled, is-running, is-draining, Moving, runs, drains, Run}
-use Rattle.model.specs.Laws.{symbols, on, up-to, Within, Bounded}
+use Rattle.model.specs.Laws.{symbols, on, up-to}
 use Rattle.model.proofs.Lists.{none-some, first-is}
 use Rattle.model.proofs.Loop.{Loop}
 use Rattle.model.proofs.Records.{rooms-kept}
 use Rattle.model.proofs.Places.{facing-is, behind-below, port-same, port-other, end-below}
 use Rattle.model.proofs.Kept.{Loops, loop-same, Stocked, Invariant, Kept}
 use Rattle.model.proofs.Calls.{step-kept, inject-kept, collect-kept, release-kept}
-use Rattle.model.proofs.Bounds.{fresh-within, handed-within, released-within, injected-within, with-within, step-bounded}
+use Rattle.model.proofs.Bounds.{Within, Bounded, new-port-within, fresh-within, handed-within, released-within, injected-within, with-within, step-bounded}
 use Rattle.log.specs.declared.event.FrameKind.the-variants.{Freed}
 use Rattle.log.specs.declared.event.Event.the-variants as event
 
@@ -263,8 +266,8 @@ module _ {B : Type 0} (M : BankCalls B) (law : (b : B) → LawfulBank M b) where
 
   -- every run stays within its bounds
   new-within : (n q : ℕ) → Within 0 0 (getD (replicate n new-port) q new-port)
-  new-within zero q = fresh-within 0 0 1 1 0
-  new-within (suc n) zero = fresh-within 0 0 1 1 0
+  new-within zero q = new-port-within 0 0
+  new-within (suc n) zero = new-port-within 0 0
   new-within (suc n) (suc q) = new-within n q
 
   unless-bounded : (r : Option Refusal) (c : Chain B) (t : Turn (Chain B)) → Bounded c → (r ≡ None → Bounded (t .state)) → Bounded (unless-refused r c t .state)
@@ -283,10 +286,23 @@ module _ {B : Type 0} (M : BankCalls B) (law : (b : B) → LawfulBank M b) where
       let n : c .tick ≢ last-tick = eqb-false (c .tick) last-tick (passed (eqb (c .tick) last-tick) refusal.LastTick _ (passed (eqb (c .links) 0) refusal.NoLinks _ z .1) .0) in
       omega (arith, h .tick)
 
+  -- what a login that is not refused has asked
+  login-fits : (c : Chain B) (k x y m n : ℕ) → login-refusal M c k x y m n ≡ None → (x ≤ 32) × (y ≤ 32) × (n ≤ 15)
+  login-fits c k x y m n z =
+      let buffers-asked = passed (leb (c .links) k) refusal.NoLinks _ z .1 in
+      let a = passed (ltb x 1 || (ltb 32 x || (ltb y 1 || ltb 32 y))) refusal.BadBuffers _ buffers-asked in
+      let n-asked = passed (ltb 15 m || ltb 15 n) refusal.BadN _ (a .1) in
+      let b = or-parts (ltb 32 x) (ltb y 1 || ltb 32 y) (or-parts (ltb x 1) (ltb 32 x || (ltb y 1 || ltb 32 y)) (a .0) .1) in
+      (ltb-false 32 x (b .0), ltb-false 32 y (or-parts (ltb y 1) (ltb 32 y) (b .1) .1), ltb-false 15 n (or-parts (ltb 15 m) (ltb 15 n) (n-asked .0) .1))
+
   pub run-bounded : {b : B} {ph : Phase} {c : Chain B} {l : Log} → Run M b ph c l → Bounded c
   run-bounded {b} new = record { links = cabling b .few; tick = omega arith; ports = new-within 16 }
   run-bounded (login {c = c} k x y m n r) =
-      unless-bounded (login-refusal M c k x y m n) c (no-act (logs-in M c k x y n)) (run-bounded r) (λ z. end-bounded (with-port c (2 * k) (logged-in x y n)) (2 * k + 1) (logged-in y x n) (end-bounded c (2 * k) (logged-in x y n) (run-bounded r) (fresh-within (c .tick) (c .tick) x y n)) (fresh-within (c .tick) (c .tick) y x n))
+      unless-bounded (login-refusal M c k x y m n) c (no-act (logs-in M c k x y n)) (run-bounded r)
+      (λ z. let f = login-fits c k x y m n z in
+      end-bounded (with-port c (2 * k) (logged-in x y n)) (2 * k + 1) (logged-in y x n)
+      (end-bounded c (2 * k) (logged-in x y n) (run-bounded r) (fresh-within (c .tick) (c .tick) x y n (f .0) (f .1) (f .2)))
+      (fresh-within (c .tick) (c .tick) y x n (f .1) (f .0) (f .2)))
   run-bounded (start r) = run-bounded r
   run-bounded (step {c = c} m room r) = unless-bounded (step-refusal M c room) c (stepped M c) (run-bounded r) (λ z. step-bounded M c (step-early c room (run-bounded r) z) (run-bounded r))
   run-bounded (inject {c = c} e room r) =
@@ -316,3 +332,29 @@ module _ {B : Type 0} (M : BankCalls B) (law : (b : B) → LawfulBank M b) where
   -- the invariant of every run
   pub run-invariant : (b : B) (ph : Phase) (c : Chain B) (l : Log) → Run M b ph c l → Invariant M c l
   run-invariant b ph c l r = always ph c l (holding r)
+
+  -- each tick has its record
+  unless-ticks : (r : Option Refusal) (c : Chain B) (t : Turn (Chain B)) (l : Log) → c .tick ≡ ticks l → (r ≡ None → t .state .tick ≡ ticks l + ticks (t .events))
+      → unless-refused r c t .state .tick ≡ ticks (l ++ unless-refused r c t .events)
+  unless-ticks None c t l h f = f refl ∙ sym (total-append tick-in l (t .events))
+  unless-ticks (Some e) c t l h f = h ∙ ap ticks (sym (append-nil l))
+
+  collect-ticks : (c : Chain B) (e : End) (r : Result Frame Refusal) (l : Log) → c .tick ≡ ticks l
+      → collects-by M c e r .state .tick ≡ ticks (l ++ collects-by M c e r .events)
+  collect-ticks c e (Ok f) l h = omega (arith, h, total-append tick-in l (collects-by M c e (Ok f) .events))
+  collect-ticks c e (Err r) l h = h ∙ ap ticks (sym (append-nil l))
+
+  login-tick : (o : Option Refusal) (c : Chain B) (k x y n : ℕ) → unless-refused o c (no-act (logs-in M c k x y n)) .state .tick ≡ c .tick
+  login-tick None c k x y n = refl
+  login-tick (Some e) c k x y n = refl
+
+  pub run-ticks : {b : B} {ph : Phase} {c : Chain B} {l : Log} → Run M b ph c l → c .tick ≡ ticks l
+  run-ticks new = refl
+  run-ticks (login {c = c} k x y m n r) = login-tick (login-refusal M c k x y m n) c k x y n ∙ run-ticks r
+  run-ticks (start r) = run-ticks r
+  run-ticks (step {c = c} {l = l} m room r) =
+      unless-ticks (step-refusal M c room) c (stepped M c) l (run-ticks r) (λ z. omega (arith, run-ticks r, step-ticks M c, stepped-tick M c))
+  run-ticks (inject {c = c} {l = l} e room r) = unless-ticks (inject-refusal M c e room) c (injected M c e) l (run-ticks r) (λ z. omega (arith, run-ticks r))
+  run-ticks (collect {c = c} {l = l} m e room r) = collect-ticks c e (collectable M c e room) l (run-ticks r)
+  run-ticks (release {c = c} {l = l} m e k room r) = unless-ticks (release-refusal M c e k room) c (released-at M c e k) l (run-ticks r) (λ z. omega (arith, run-ticks r))
+  run-ticks (drain r) = run-ticks r

@@ -40,7 +40,7 @@ over-links f (ℕ.suc i) = over-links f i + f i
 
 -- At each record of the log: no frame meets a full receiver, and no R_RDY an unused credit, by the records before it.
 -- `buffers` has the buffers of each port.
-pub record NoneInVain (buffers : ℕ → ℕ) (l : Log) : Type 0 where
+pub record AlwaysRoom (buffers : ℕ → ℕ) (l : Log) : Type 0 where
   pub frames : (before after : Log) (p : ℕ) (f : Frame) →
       l ≡ before ++ (event.Item Got p (symbol.Frame f) ∷ after) → held p before + owed p before < buffers p
   pub rrdys : (before after : Log) (p : ℕ) →
@@ -77,20 +77,31 @@ abbrev pub opposite : End → End
 opposite West = East
 opposite East = West
 
--- the figures of a port that has taken at most `took` items and sent at most `sent` symbols
-pub record Within (took sent : ℕ) (s : Port) : Type 0 where
-  pub injected : s .outbox .injected ≤ sent + length (s .outbox .frames)
+-- No number of a port comes near the largest that its field holds, or leaves the bounds that its type keeps.
+pub record PortInBounds (tick : ℕ) (s : Port) : Type 0 where
+  pub buffers : s .buffers .all ≤ 32
+  pub limit : s .credit .limit ≤ 32
+  pub n : s .n ≤ 15
+  pub used : s .credit .used ≤ s .credit .limit
+  pub room : s .buffers .held + s .buffers .owed ≤ s .buffers .all
+  pub stocked : length (s .buffers .waiting) + length (s .buffers .out) ≤ s .buffers .held
+  pub frames-sent : s .frames-out .sent < 2 ^ s .n
+  pub frames-got : s .frames-in .got < 2 ^ s .n
+  pub rrdys-sent : s .rrdys-out .sent < 2 ^ s .n
+  pub rrdys-got : s .rrdys-in .got < 2 ^ s .n
   pub outbox : length (s .outbox .frames) ≤ outbox-places
-  pub frames-lost : s .frames-in .lost ≤ took
-  pub rrdys-lost : s .rrdys-in .lost ≤ took
-  pub handed : s .buffers .handed + length (s .buffers .waiting) ≤ took
+  pub injected : s .outbox .injected ≤ tick + outbox-places
+  pub collected : s .buffers .handed ≤ tick
+  pub frames-lost : s .frames-in .lost ≤ tick
+  pub rrdys-lost : s .rrdys-in .lost ≤ tick
+  pub frames-good : s .frames-in .good ≤ s .frames-in .lost
+  pub rrdys-good : s .rrdys-in .good ≤ s .rrdys-in .lost
 
--- No number of the bench comes near the largest that its field holds: in a step each port takes at most one item and
--- sends at most one symbol.
-pub record Bounded {B : Type 0} (c : Chain B) : Type 0 where
+-- so at each port, and of links and ticks
+pub record InBounds {B : Type 0} (c : Chain B) : Type 0 where
   pub links : c .links ≤ 8
   pub tick : c .tick ≤ last-tick
-  pub ports : (p : ℕ) → Within (c .tick) (c .tick) (port-of c p)
+  pub ports : (p : ℕ) → p < 2 * c .links → PortInBounds (c .tick) (port-of c p)
 
 module _ {B : Type 0} (M : BankCalls B) where
   -- the symbols on direction d
@@ -114,6 +125,7 @@ module _ {B : Type 0} (M : BankCalls B) where
   -- WHOLE PARTS. On the direction of port p the n-th put is the n-th taken, each ended stretch of a stream has left a
   -- whole part missing, and every reported loss is in an ended stretch or in the open one.
   pub record WholeParts (c : Chain B) (l : Log) (p : ℕ) (k : Stream) : Type 0 where
+    pub same-n : port-of c p .n ≡ port-of c (facing p) .n
     pub each : Each (WholePart (port-of c p .n)) (stretches k p l .ended)
     pub all-lost : reported-lost k (facing p) l ≡ lost-among (stretches k p l .still-open) + lost-in (stretches k p l .ended)
     pub all-good : made-good k (facing p) l ≡ good-among (stretches k p l .ended)
@@ -174,14 +186,15 @@ module _ {B : Type 0} (M : BankCalls B) where
   -- The four laws, of a chain and the log of its run.
   pub record Holds (c : Chain B) (l : Log) : Type 0 where
     pub credit-sum : (p : ℕ) → p < 2 * c .links → CreditSum c l p
-    pub none-in-vain : NoneInVain (λ p. port-of c p .buffers .all) l
+    pub always-room : AlwaysRoom (λ p. port-of c p .buffers .all) l
     pub in-turn : (p : ℕ) → p < 2 * c .links →
         puts p l ≡ taken-symbols (taken (facing p) l) ++ on c p
     pub whole-parts : (p : ℕ) (k : Stream) → p < 2 * c .links → WholeParts c l p k
     pub one-place : (e : End) → 0 < c .links → OnePlace c l e
     pub records-tell : (p : ℕ) → p < 2 * c .links → RecordsTell c l p
     pub ends-tell : (e : End) → 0 < c .links → EndsTell c l e
-    pub bounded : Bounded c
+    pub tick-is : c .tick ≡ ticks l
+    pub in-bounds : InBounds c
 
   -- every run from a cabling over bank b, with any calls
   abbrev pub EveryRun : B → Type 0

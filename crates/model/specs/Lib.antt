@@ -5,3 +5,4 @@ pub mod Run
 pub mod Figures
 pub mod Stretches
 pub mod Laws
+pub mod Worked
