@@ -109,74 +109,44 @@ tally-after k t (event.Item Missed q s) = one-missed (role k s) t
 tally-after k t (event.Frame kind q f) = t
 tally-after k t (event.MadeGood q m n) = some-good (role k (symbol.Mark m)) n t
 
-abbrev pub freed-after : ℕ → Event → ℕ
-freed-after n (event.Tick t) = n
-freed-after n (event.Item kind q s) = n
-freed-after n (event.Frame Freed q f) = n + 1
-freed-after n (event.Frame Injected q f) = n
-freed-after n (event.Frame Collected q f) = n
-freed-after n (event.MadeGood q m k) = n
+-- by what a put, got or lost record makes of it, and by what a freed, injected or collected one does
+abbrev pub by-item : {X : Type 0} → (X → Symbol → X) → (X → Symbol → X) → (X → Symbol → X) → X → Event → X
+by-item put got lost x (event.Tick t) = x
+by-item put got lost x (event.Item Put q s) = put x s
+by-item put got lost x (event.Item Got q s) = got x s
+by-item put got lost x (event.Item Missed q s) = lost x s
+by-item put got lost x (event.Frame kind q f) = x
+by-item put got lost x (event.MadeGood q m n) = x
 
-abbrev pub puts-after : List Symbol → Event → List Symbol
-puts-after ss (event.Tick t) = ss
-puts-after ss (event.Item Put q s) = ss ++ (s ∷ [])
-puts-after ss (event.Item Got q s) = ss
-puts-after ss (event.Item Missed q s) = ss
-puts-after ss (event.Frame kind q f) = ss
-puts-after ss (event.MadeGood q m k) = ss
+abbrev pub by-frame : {X : Type 0} → (X → Frame → X) → (X → Frame → X) → (X → Frame → X) → X → Event → X
+by-frame freed injected collected x (event.Tick t) = x
+by-frame freed injected collected x (event.Item kind q s) = x
+by-frame freed injected collected x (event.Frame Freed q f) = freed x f
+by-frame freed injected collected x (event.Frame Injected q f) = injected x f
+by-frame freed injected collected x (event.Frame Collected q f) = collected x f
+by-frame freed injected collected x (event.MadeGood q m n) = x
 
-abbrev pub taken-after : List Symbol → Event → List Symbol
-taken-after ss (event.Tick t) = ss
-taken-after ss (event.Item Put q s) = ss
-taken-after ss (event.Item Got q s) = ss ++ (s ∷ [])
-taken-after ss (event.Item Missed q s) = ss ++ (s ∷ [])
-taken-after ss (event.Frame kind q f) = ss
-taken-after ss (event.MadeGood q m k) = ss
+abbrev pub as-it-was : {X Y : Type 0} → X → Y → X
+as-it-was x y = x
 
-abbrev pub got-after : List Frame → Event → List Frame
-got-after fs (event.Tick t) = fs
-got-after fs (event.Item Put q s) = fs
-got-after fs (event.Item Got q s) = frame-last fs s
-got-after fs (event.Item Missed q s) = fs
-got-after fs (event.Frame kind q f) = fs
-got-after fs (event.MadeGood q m k) = fs
+abbrev pub last : {X : Type 0} → List X → X → List X
+last xs x = xs ++ (x ∷ [])
 
-abbrev pub lost-after : List Frame → Event → List Frame
-lost-after fs (event.Tick t) = fs
-lost-after fs (event.Item Put q s) = fs
-lost-after fs (event.Item Got q s) = fs
-lost-after fs (event.Item Missed q s) = frame-last fs s
-lost-after fs (event.Frame kind q f) = fs
-lost-after fs (event.MadeGood q m k) = fs
-
-abbrev pub injected-after : List Frame → Event → List Frame
-injected-after fs (event.Tick t) = fs
-injected-after fs (event.Item kind q s) = fs
-injected-after fs (event.Frame Freed q f) = fs
-injected-after fs (event.Frame Injected q f) = fs ++ (f ∷ [])
-injected-after fs (event.Frame Collected q f) = fs
-injected-after fs (event.MadeGood q m k) = fs
-
-abbrev pub collected-after : List Frame → Event → List Frame
-collected-after fs (event.Tick t) = fs
-collected-after fs (event.Item kind q s) = fs
-collected-after fs (event.Frame Freed q f) = fs
-collected-after fs (event.Frame Injected q f) = fs
-collected-after fs (event.Frame Collected q f) = fs ++ (f ∷ [])
-collected-after fs (event.MadeGood q m k) = fs
+abbrev pub one-freed : ℕ → Frame → ℕ
+one-freed n f = n + 1
 
 abbrev pub noted : Account → Event → Account
 noted a e = record {
   frames = tally-after Frames (a .frames) e;
   rrdys = tally-after RRdys (a .rrdys) e;
-  freed = freed-after (a .freed) e;
-  puts = puts-after (a .puts) e;
-  taken = taken-after (a .taken) e;
+  freed = by-frame one-freed as-it-was as-it-was (a .freed) e;
+  puts = by-item last as-it-was as-it-was (a .puts) e;
+  taken = by-item as-it-was last last (a .taken) e;
   takes = took (a .takes) e;
-  got = got-after (a .got) e;
-  lost = lost-after (a .lost) e;
-  injected = injected-after (a .injected) e;
-  collected = collected-after (a .collected) e;
+  got = by-item as-it-was frame-last as-it-was (a .got) e;
+  lost = by-item as-it-was as-it-was frame-last (a .lost) e;
+  injected = by-frame as-it-was last as-it-was (a .injected) e;
+  collected = by-frame as-it-was as-it-was last (a .collected) e;
 }
 
 abbrev pub noted-all : Account → Log → Account

@@ -13,7 +13,7 @@ use Rattle.symbol.specs.Symbols.{noted-lost}
 use Rattle.channel.specs.Calls.{Aged, none, kept, lost, Known, idle, received}
 use Rattle.bank.specs.Bank.{BankCalls, LawfulBank, absent, count, channel-at}
 use Rattle.model.specs.Chain.{sound}
-use Rattle.model.specs.Laws.{symbols}
+use Rattle.model.specs.Chain.{symbols}
 
 pub symbols-snoc : (xs : List Item) (i : Item) → symbols (xs ++ (i ∷ [])) ≡ symbols xs ++ (i .symbol ∷ [])
 symbols-snoc [] i = refl

@@ -13,7 +13,7 @@ use Rattle.std.specs.declared.result.Result.the-variants.{Ok}
 use Rattle.symbol.specs.declared.Item.{Item}
 use Rattle.symbol.specs.declared.Frame.{Frame}
 use Rattle.bank.specs.Bank.{BankCalls, LawfulBank}
-use Rattle.model.specs.Laws.{numbers}
+use Rattle.model.specs.OnePlace.{numbers}
 use Rattle.model.specs.Port.{next-frame, freed-of}
 use Rattle.model.specs.Chain.{injected}
 use Rattle.model.proofs.Banks.{bank-step}
@@ -24,7 +24,8 @@ use Rattle.model.proofs.Accounts.{Account, noted-all, account}
 use Rattle.model.specs.Figures.{frames-among}
 use Rattle.model.specs.Port.{Port, Buffers, Turn, and-then, with-buffers, lent-out, injected-at, among, without}
 use Rattle.model.specs.Chain.{Chain, facing, port-of, with-port, end-port, takes, sends, each-port, ticked, stepped, collects-by, released-at}
-use Rattle.model.specs.Laws.{symbols, on, up-to}
+use Rattle.model.specs.Chain.{symbols, on}
+use Rattle.model.specs.OnePlace.{up-to}
 use Rattle.model.proofs.Lists.{fewer-without}
 use Rattle.model.proofs.Links.{takes-links, sends-links, each-links}
 use Rattle.model.proofs.Loop.{Loop, receiver-frees}

@@ -1,5 +1,5 @@
 -- A counted stream: its sender, the symbols on its way, and its receiver keep in step.
-use mathlib.Core.Path.{_≡_, sym, ap, subst, _∙_}
+use mathlib.Core.Path.{_≡_, refl, sym, ap, subst, _∙_}
 use mathlib.Core.Bool.{Bool, true, false, _&&_, _||_}
 use mathlib.Core.List.{List, [], _∷_, _++_}
 use Prim.Native.Nat.{ℕ, suc, _+_, _-_, _%_, _^_, _≤_, _<_}
@@ -11,7 +11,7 @@ use Rattle.std.proofs.shelf.Tests.{and-parts, eqb-true}
 use Rattle.model.specs.Port.{Outflow, lost-of}
 use Rattle.model.specs.Figures.{Role, counted, mark, other, one-counted, counted-in}
 use Rattle.model.specs.Stretches.{Arrived, WasLost, lost-among, lost-in, good-among}
-use Rattle.model.specs.Laws.{Each, WholePart}
+use Rattle.model.specs.WholeParts.{Each, WholePart}
 use Rattle.model.proofs.Accounts.{Losses}
 
 -- the losses of the open stretch
@@ -117,25 +117,22 @@ module _ (n : ℕ) (out : Outflow) (got : ℕ) (x : Losses) where
     ended = h .ended;
   }
 
-  pub take-other : (rs : List Role) → InStep n out got (other ∷ rs) x → InStep n out got rs x
-  take-other rs h = record {
-    sent-is = h .sent-is ∙ ap (λ (z : ℕ). z % 2 ^ n) (omega arith);
+  -- what is not counted is taken
+  take-uncounted : (r : Role) (rs : List Role) → one-counted r ≡ 0 → InStep n out got (r ∷ rs) x → InStep n out got rs x
+  take-uncounted r rs z h = record {
+    sent-is = h .sent-is ∙ ap (λ (z : ℕ). z % 2 ^ n) (omega (arith, z));
     due-is = h .due-is;
-    marks = marks-mod _ _ _ rs (ap (λ (z : ℕ). z % 2 ^ n) (omega arith)) (h .marks .1);
+    marks = marks-mod _ _ _ rs (ap (λ (z : ℕ). z % 2 ^ n) (omega (arith, z))) (h .marks .1);
     below = h .below;
     good = h .good;
     ended = h .ended;
   }
 
+  pub take-other : (rs : List Role) → InStep n out got (other ∷ rs) x → InStep n out got rs x
+  take-other rs = take-uncounted other rs refl
+
   pub lose-mark : (rs : List Role) → InStep n out got (mark ∷ rs) x → InStep n out got rs x
-  lose-mark rs h = record {
-    sent-is = h .sent-is ∙ ap (λ (z : ℕ). z % 2 ^ n) (omega arith);
-    due-is = h .due-is;
-    marks = marks-mod _ _ _ rs (ap (λ (z : ℕ). z % 2 ^ n) (omega arith)) (h .marks .1);
-    below = h .below;
-    good = h .good;
-    ended = h .ended;
-  }
+  lose-mark rs = take-uncounted mark rs refl
 
   pub lose-counted : (rs : List Role) → InStep n out got (counted ∷ rs) x
       → InStep n out got rs (with-lost x)

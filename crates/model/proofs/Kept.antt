@@ -19,7 +19,7 @@ use Rattle.symbol.specs.declared.Item.{Item}
 use Rattle.model.specs.declared.End.{End}
 use Rattle.symbol.specs.declared.Frame.{Frame}
 use Rattle.bank.specs.Bank.{BankCalls, LawfulBank}
-use Rattle.model.specs.Laws.{numbers}
+use Rattle.model.specs.OnePlace.{numbers}
 use Rattle.model.specs.Stretches.{Arrived, WasLost, cut, nothing-put}
 use Rattle.model.proofs.Banks.{bank-put, bank-put-off, bank-take, bank-take-off, bank-take-none, bank-ready}
 use Rattle.model.proofs.Cuts.{Cut, cut-more, cut-good}
@@ -29,7 +29,8 @@ use Rattle.model.proofs.Accounts.{Account, noted, noted-all, account}
 use Rattle.model.specs.Figures.{frames-among}
 use Rattle.model.specs.Port.{Port, Outbox, Turn, new-port, with-buffers, emptied, unsent, frame-of, sent-on, received, has-sent, after-send, frame-held, credit-back, frames-found, rrdys-found, frames-corrected, rrdys-corrected}
 use Rattle.model.specs.Chain.{Chain, facing, behind, port-of, with-ports, with-port, with-bank, end-port, takes-item, takes, is-end, source, sends-symbol, sends}
-use Rattle.model.specs.Laws.{symbols, on, up-to}
+use Rattle.model.specs.Chain.{symbols, on}
+use Rattle.model.specs.OnePlace.{up-to}
 use Rattle.model.specs.Figures.{roles}
 use Rattle.model.proofs.Lists.{first-is}
 use Rattle.model.proofs.Loop.{taken-events, Sender, Receiver, LoopOf, Loop, sender-takes, receiver-takes, HasRoom, room, MayPut, sender-puts, receiver-puts, receiver-frees, frame-room, rrdy-room}

@@ -14,21 +14,24 @@ use Rattle.log.specs.declared.event.ItemKind.the-variants.{Got}
 use Rattle.bank.specs.Bank.{BankCalls, LawfulBank}
 use Rattle.model.specs.declared.End.{End}
 use Rattle.model.specs.Port.{Turn, no-act}
-use Rattle.model.specs.Chain.{Chain, facing, port-of, end-port, port-at-end, logins, injects, steps, collects, releases}
+use Rattle.model.specs.Chain.{Chain, facing, port-of, end-port, port-at-end, opposite, on}
+use Rattle.model.specs.Chain.{logins, injects, steps, collects, releases}
 use Rattle.model.specs.Run.{Log, Phase, Moving, Run, is-cabled, is-running, is-draining}
 use Rattle.model.specs.Run.{login, start, inject, step, collect, release, drain}
 use Rattle.model.specs.Figures.{Stream, Frames, RRdys, reported-lost, made-good, puts, injected, collected, ticks}
 use Rattle.model.specs.Stretches.{taken, taken-symbols, stretches, cut, nothing-put, lost-in, good-among}
-use Rattle.model.specs.Laws.{on, times, numbers, up-to, over-links, Each, WholePart, CreditSum, AlwaysRoom, WholeParts}
-use Rattle.model.specs.Laws.{OnePlace, RecordsTell, EndsTell, taker, way-lost, way-reported, opposite, hop, places, PortInBounds, InBounds, Holds}
-use Rattle.model.specs.Laws.{EveryRun, Continues}
-use Rattle.model.proofs.Accounts.{Account, Losses, account}
+use Rattle.model.specs.CreditSum.{SumOfSix, CreditSum}
+use Rattle.model.specs.WholeParts.{Each, WholePart, InParts, WholeParts}
+use Rattle.model.specs.OnePlace.{numbers, up-to, over-links, hop, taker, places, OfOneEnd, OnePlace}
+use Rattle.model.specs.RecordsTell.{PortTold, WayTold, PortInBounds, InBounds, RecordsTell}
+use Rattle.model.specs.Laws.{Holds, EveryRun, Continues}
+use Rattle.model.proofs.Accounts.{Losses, account}
 use Rattle.model.proofs.InStep.{Wholes}
 use Rattle.model.proofs.Loop.{Loop}
 use Rattle.model.proofs.Records.{AllMeetRoom, room-at}
 use Rattle.model.proofs.Told.{told}
 use Rattle.model.proofs.Cuts.{SameLosses, put-stretches}
-use Rattle.model.proofs.Places.{facing-back, facing-below, facing-is, end-below}
+use Rattle.model.proofs.Places.{facing-back, facing-below, end-below}
 use Rattle.model.proofs.Kept.{Invariant}
 use Rattle.model.proofs.Bounds.{Bounded}
 use Rattle.model.proofs.Runs.{run-invariant, run-bounded, run-ticks}
@@ -64,8 +67,8 @@ module _ {B : Type 0} (M : BankCalls B) (law : (b : B) → LawfulBank M b) where
     takes-in : (p : ℕ) → p < 2 * c .links → Loop (port-of c (facing p)) (port-of c p) (on M c (facing p)) (on M c p) (account (facing p) l) (account p l)
     takes-in p lt = h .loops (facing p) p (facing-below (c .links) p (facing p) refl lt) (facing-back p (facing p) refl)
 
-    credit-sum : (p : ℕ) → p < 2 * c .links → CreditSum M c l p
-    credit-sum p lt =
+    sum-of-six : (p : ℕ) → p < 2 * c .links → SumOfSix M c l p
+    sum-of-six p lt =
         let q = told (facing p) l in
         let s = told p l in
         record {
@@ -76,9 +79,10 @@ module _ {B : Type 0} (M : BankCalls B) (law : (b : B) → LawfulBank M b) where
           rrdys-good = omega (arith, sends-in p lt .rrdys .good, s .rrdys-lost, s .rrdys-good);
         }
 
-    always-room : AlwaysRoom (λ p. port-of c p .buffers .all) l
-    always-room = record {
-      frames = λ before after p f e.
+    credit-sum : CreditSum M c l
+    credit-sum = record {
+      sums = sum-of-six;
+      no-full-receiver = λ before after p f e.
           let t = told p before in
           omega (
             arith,
@@ -88,7 +92,7 @@ module _ {B : Type 0} (M : BankCalls B) (law : (b : B) → LawfulBank M b) where
             t .freed-is,
             t .rrdys-put,
           );
-      rrdys = λ before after p e.
+      no-unused-credit = λ before after p e.
           let t = told p before in
           omega (
             arith,
@@ -104,29 +108,28 @@ module _ {B : Type 0} (M : BankCalls B) (law : (b : B) → LawfulBank M b) where
         sym (told p l .puts-are) ∙ sends-in p lt .order ∙ ap {B = List Symbol} (λ z. z ++ on M c p) (told (facing p) l .taken-are)
 
     -- the whole parts of the account are those of the stretches of the puts
-    wholes : (p : ℕ) (k : Stream) (x : Losses) → port-of c p .n ≡ port-of c (facing p) .n → Wholes (port-of c p .n) x → x .lost ≡ reported-lost k (facing p) l → x .good ≡ made-good k (facing p) l
-        → SameLosses (x .cut) (stretches k p l) → WholeParts M c l p k
-    wholes p k x n w lost good same = record {
-      same-n = n;
+    wholes : (p : ℕ) (k : Stream) (x : Losses) → Wholes (port-of c p .n) x → x .lost ≡ reported-lost k (facing p) l → x .good ≡ made-good k (facing p) l
+        → SameLosses (x .cut) (stretches k p l) → InParts (port-of c p .n) k p l
+    wholes p k x w lost good same = record {
       each = subst (Each (WholePart (port-of c p .n))) (sym (same .ended)) (w .each);
       all-lost = sym lost ∙ w .all-lost ∙ (λ i. sym (same .lost) i + lost-in (sym (same .ended) i));
       all-good = sym good ∙ w .all-good ∙ ap good-among (sym (same .ended));
     }
 
-    whole-parts : (p : ℕ) (k : Stream) → p < 2 * c .links → WholeParts M c l p k
-    whole-parts p Frames lt =
+    parts : (p : ℕ) (k : Stream) → p < 2 * c .links → InParts (port-of c p .n) k p l
+    parts p Frames lt =
         let q = told (facing p) l in
-        wholes p Frames (account (facing p) l .frames .losses) (sends-in p lt .figures .same-n) (sends-in p lt .frames .ended) (q .frames-lost) (q .frames-good)
+        wholes p Frames (account (facing p) l .frames .losses) (sends-in p lt .frames .ended) (q .frames-lost) (q .frames-good)
         (put-stretches Frames (puts p l) (taken (facing p) l) (on M c p) (account (facing p) l .frames .losses .cut) (in-turn p lt)
         (ap (cut Frames nothing-put) (sym (q .takes-are)) ∙ h .cuts (facing p) (facing-below (c .links) p (facing p) refl lt) .frames))
-    whole-parts p RRdys lt =
+    parts p RRdys lt =
         let q = told (facing p) l in
-        wholes p RRdys (account (facing p) l .rrdys .losses) (sends-in p lt .figures .same-n) (subst (λ (n : ℕ). Wholes n (account (facing p) l .rrdys .losses)) (takes-in p lt .figures .same-n) (takes-in p lt .rrdys .ended)) (q .rrdys-lost) (q .rrdys-good)
+        wholes p RRdys (account (facing p) l .rrdys .losses) (subst (λ (n : ℕ). Wholes n (account (facing p) l .rrdys .losses)) (takes-in p lt .figures .same-n) (takes-in p lt .rrdys .ended)) (q .rrdys-lost) (q .rrdys-good)
         (put-stretches RRdys (puts p l) (taken (facing p) l) (on M c p) (account (facing p) l .rrdys .losses .cut) (in-turn p lt)
         (ap (cut RRdys nothing-put) (sym (q .takes-are)) ∙ h .cuts (facing p) (facing-below (c .links) p (facing p) refl lt) .rrdys))
 
-    records-tell : (p : ℕ) → p < 2 * c .links → RecordsTell M c l p
-    records-tell p lt = let t = told p l in record {
+    port-told : (p : ℕ) → p < 2 * c .links → PortTold c l p
+    port-told p lt = let t = told p l in record {
       held-is = omega (arith, takes-in p lt .figures .held-is, t .frames-got, t .freed-is);
       owed-is = omega (arith, takes-in p lt .figures .owed-is, t .freed-is, t .frames-good, t .rrdys-put);
       used-is = omega (arith, sends-in p lt .figures .used-is, t .frames-put, t .rrdys-got, t .rrdys-good);
@@ -146,8 +149,8 @@ module _ {B : Type 0} (M : BankCalls B) (law : (b : B) → LawfulBank M b) where
     numbered : (e : End) → 0 < c .links → numbers (injected (end-port c e) l) ≡ up-to (port-at-end c e .outbox .injected)
     numbered e some = ap numbers (sym (told (end-port c e) l .injected-are)) ∙ h .numbered e some
 
-    one-place : (e : End) → 0 < c .links → OnePlace M c l e
-    one-place e some = record {
+    of-one-end : (e : End) → 0 < c .links → OfOneEnd M c l e
+    of-one-end e some = record {
       numbered = numbered e some;
       one = λ k z n. often k ∙ up-to-in (port-at-end c e .outbox .injected) k z n;
       no-other = λ k z. often k ∙ up-to-out (port-at-end c e .outbox .injected) k z;
@@ -157,18 +160,18 @@ module _ {B : Type 0} (M : BankCalls B) (law : (b : B) → LawfulBank M b) where
         often : (k : ℕ) → places M c l e k ≡ how-often k (up-to (port-at-end c e .outbox .injected))
         often k = places-are M c l h some e k ∙ times-often k (injected (end-port c e) l) ∙ ap (how-often k) (numbered e some)
 
-    taker-below : (e : End) (i : ℕ) → i < c .links → taker M c e i < 2 * c .links
-    taker-below e i z = facing-below (c .links) (hop M c e i) (taker M c e i) refl (hop-below M c e i z)
+    taker-below : (e : End) (i : ℕ) → i < c .links → taker c e i < 2 * c .links
+    taker-below e i z = facing-below (c .links) (hop c e i) (taker c e i) refl (hop-below M c e i z)
 
-    ends-tell : (e : End) → 0 < c .links → EndsTell M c l e
-    ends-tell e some = record {
+    way-told : (e : End) → 0 < c .links → WayTold c l e
+    way-told e some = record {
       injected-is = sym (sym (length-numbers (injected (end-port c e) l)) ∙ ap length (numbered e some) ∙ length-up-to (port-at-end c e .outbox .injected));
-      collected-is = records-tell (end-port c (opposite e)) (end-below c (opposite e) some) .handed-is;
-      lost-is = links-same _ _ (c .links) (λ i z. records-tell (taker M c e i) (taker-below e i z) .frames-lost);
+      collected-is = port-told (end-port c (opposite e)) (end-below c (opposite e) some) .handed-is;
+      lost-is = links-same _ _ (c .links) (λ i z. port-told (taker c e i) (taker-below e i z) .frames-lost);
     }
 
     in-bounds : (p : ℕ) → p < 2 * c .links → PortInBounds (c .tick) (port-of c p)
-    in-bounds p lt = let t = told p l in let r = records-tell p lt in let w = few .ports p in record {
+    in-bounds p lt = let t = told p l in let r = port-told p lt in let w = few .ports p in record {
       buffers = w .buffers;
       limit = w .limit;
       n = w .n;
@@ -192,14 +195,14 @@ module _ {B : Type 0} (M : BankCalls B) (law : (b : B) → LawfulBank M b) where
     holds : Holds M c l
     holds = record {
       credit-sum = credit-sum;
-      always-room = always-room;
-      in-turn = in-turn;
-      whole-parts = whole-parts;
-      one-place = one-place;
-      records-tell = records-tell;
-      ends-tell = ends-tell;
-      tick-is = timed;
-      in-bounds = record { links = few .links; tick = few .tick; ports = in-bounds };
+      whole-parts = record { in-turn = in-turn; same-n = λ p lt. sends-in p lt .figures .same-n; parts = parts };
+      one-place = record { ways = of-one-end };
+      records-tell = record {
+        ports = port-told;
+        ways = way-told;
+        tick = timed;
+        in-bounds = record { links = few .links; tick = few .tick; ports = in-bounds };
+      };
     }
 
   pub every-run : (b : B) → EveryRun M b

@@ -18,7 +18,7 @@ use Rattle.log.specs.declared.event.FrameKind.the-variants.{Freed}
 use Rattle.log.specs.declared.event.ItemKind.the-variants.{Put, Got, Lost as Missed}
 use Rattle.model.specs.Port.{Port, Outflow, lost-of, missed, arrived, received, receive-events, correction, has-sent}
 use Rattle.model.specs.Port.{frame-held, is-full, credit-back, frames-found, rrdys-found, frames-corrected}
-use Rattle.model.specs.Port.{rrdys-corrected, with-buffers, emptied, tallied}
+use Rattle.model.specs.Port.{rrdys-corrected, frames-made-good, rrdys-made-good, with-buffers, emptied}
 use Rattle.model.specs.Run.{Log}
 use Rattle.model.specs.Figures.{Stream, Frames, RRdys, Role, counted, mark, role, roles, counted-in, one-counted}
 use Rattle.model.specs.Figures.{how-many}
@@ -226,25 +226,13 @@ module _ (at : ℕ) (s r : Port) (fwd back : List Symbol) (a b : Account) where
       least : (x : ℕ) → x ≡ open-lost (a .rrdys .losses) % 2 ^ s .n → open-lost (a .rrdys .losses) % 2 ^ s .n ≤ open-lost (a .rrdys .losses) → min x (s .credit .used) ≡ x
       least x e m = omega (arith, h)
 
-  sender-marked : (k : ℕ) → k ≡ lost-of (s .n) (s .rrdys-in .got) → k ≤ open-lost (a .rrdys .losses) → Loop s r fwd (symbol.Mark BbScR ∷ back) a b
-      → LoopOf (record {
-        n = s .n;
-        limit = s .credit .limit;
-        used = s .credit .used - k;
-        out = s .frames-out;
-        got = 0;
-        frames-put = a .frames .put;
-        rrdys-got = a .rrdys .got;
-        lost = s .rrdys-in .lost;
-        good = tallied (s .rrdys-in .good) k;
-        losses = marked (a .rrdys) (a .rrdys .losses .good + k) k .losses;
-        puts = a .puts;
-      })
-      (receiver r b) fwd (roles RRdys back)
+  sender-marked : (k : ℕ) → k ≡ lost-of (s .n) (s .rrdys-in .got) → k ≤ open-lost (a .rrdys .losses)
+      → Loop s r fwd (symbol.Mark BbScR ∷ back) a b
+      → Loop (rrdys-made-good s k) r fwd back (rrdys-marked a (a .rrdys .losses .good + k) k (a .takes)) b
   sender-marked k e m h = record {
     figures = omega (arith, h, m);
     frames = h .frames;
-    rrdys = subst (λ (x : ℕ). InStep (s .n) (r .rrdys-out) 0 (roles RRdys back) (marked (a .rrdys) (a .rrdys .losses .good + x) x .losses)) (sym e) (get-mark _ _ _ _ _ (h .rrdys));
+    rrdys = subst (λ (x : ℕ). InStep (s .n) (r .rrdys-out) 0 (roles RRdys back) (with-mark (a .rrdys .losses) (a .rrdys .losses .good + x) x)) (sym e) (get-mark _ _ _ _ _ (h .rrdys));
     order = h .order;
   }
 
@@ -278,25 +266,12 @@ module _ (at : ℕ) (s r : Port) (fwd back : List Symbol) (a b : Account) where
           → min x (r .buffers .all - (r .buffers .held + r .buffers .owed)) ≡ x
       least x e m = omega (arith, h)
 
-  receiver-marked : (k : ℕ) → k ≡ lost-of (s .n) (r .frames-in .got) → k ≤ open-lost (b .frames .losses) → Loop s r (symbol.Mark BbScS ∷ fwd) back a b
-      → LoopOf (sender s a) (record {
-        n = r .n;
-        all = r .buffers .all;
-        held = r .buffers .held;
-        owed = r .buffers .owed + k;
-        out = r .rrdys-out;
-        got = 0;
-        freed = b .freed;
-        frames-got = b .frames .got;
-        rrdys-put = b .rrdys .put;
-        lost = r .frames-in .lost;
-        good = tallied (r .frames-in .good) k;
-        losses = marked (b .frames) (b .frames .losses .good + k) k .losses;
-        taken = b .taken ++ (symbol.Mark BbScS ∷ []);
-      }) fwd (roles RRdys back)
+  receiver-marked : (k : ℕ) → k ≡ lost-of (s .n) (r .frames-in .got) → k ≤ open-lost (b .frames .losses)
+      → Loop s r (symbol.Mark BbScS ∷ fwd) back a b
+      → Loop s (frames-made-good r k) fwd back a (frames-marked b (b .frames .losses .good + k) k (b .takes))
   receiver-marked k e m h = record {
     figures = omega (arith, h, m);
-    frames = subst (λ (x : ℕ). InStep (s .n) (s .frames-out) 0 (roles Frames fwd) (marked (b .frames) (b .frames .losses .good + x) x .losses)) (sym e) (get-mark _ _ _ _ _ (h .frames));
+    frames = subst (λ (x : ℕ). InStep (s .n) (s .frames-out) 0 (roles Frames fwd) (with-mark (b .frames .losses) (b .frames .losses .good + x) x)) (sym e) (get-mark _ _ _ _ _ (h .frames));
     rrdys = h .rrdys;
     order = taken-next _ _ _ _ (h .order);
   }

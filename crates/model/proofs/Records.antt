@@ -14,7 +14,7 @@ use Rattle.model.proofs.Accounts.{Account, noted, noted-all, account, no-accou
 use Rattle.model.specs.Port.{Port, frames-found, rrdys-found}
 use Rattle.model.proofs.Loop.{taken-events}
 use Rattle.symbol.specs.declared.Frame.{Frame}
-use Rattle.model.specs.Laws.{Each}
+use Rattle.model.specs.WholeParts.{Each}
 use Rattle.symbol.specs.declared.Symbol.the-variants as symbol
 use Rattle.symbol.specs.declared.Mark.{Mark as MarkIs}
 use Rattle.symbol.specs.declared.Mark.the-variants.{BbScS, BbScR}

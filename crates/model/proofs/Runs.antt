@@ -33,7 +33,8 @@ use Rattle.model.proofs.Accounts.{account, no-account}
 use Rattle.model.specs.Port.{Port, Turn, no-act, among, without, handed-out, released, injected-at, logged-in, new-port}
 use Rattle.model.specs.Chain.{Chain, facing, port-of, with-port, end-port, all-idle, cabled-links, cabled, stepped, from-oldest, collectable, collects-by, collects, released-at, logs-in, logins, step-refusal, inject-refusal, release-refusal, login-refusal, unless-refused}
 use Rattle.model.specs.Run.{Phase, is-cabled, is-running, is-draining, Moving, runs, drains, Run}
-use Rattle.model.specs.Laws.{symbols, on, up-to}
+use Rattle.model.specs.Chain.{symbols, on}
+use Rattle.model.specs.OnePlace.{up-to}
 use Rattle.model.proofs.Lists.{none-some, first-is}
 use Rattle.model.proofs.Loop.{Loop}
 use Rattle.model.proofs.Records.{rooms-kept}

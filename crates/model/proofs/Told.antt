@@ -17,9 +17,8 @@ use Rattle.model.specs.Figures.{Stream, Frames, RRdys, Role, counted, mark, ot
 use Rattle.model.specs.Figures.{how-many, frames-among, records, symbol-in, frame-in, good-of-role, good-in, total}
 use Rattle.model.specs.Figures.{puts, put-count, got-count, reported-lost, made-good, freed, lost-frames, injected, collected}
 use Rattle.model.specs.Stretches.{Passage, last-good, took, took-all, taken, taken-symbols}
-use Rattle.model.proofs.Accounts.{Tally, Account, one-put, one-got, one-missed, some-good, tally-after, freed-after}
-use Rattle.model.proofs.Accounts.{frame-last, puts-after, taken-after, lost-after, injected-after, collected-after}
-use Rattle.model.proofs.Accounts.{noted, noted-all, no-account, account}
+use Rattle.model.proofs.Accounts.{Tally, Account, one-put, one-got, one-missed, some-good, tally-after, frame-last}
+use Rattle.model.proofs.Accounts.{by-item, by-frame, as-it-was, last, one-freed, noted, noted-all, no-account, account}
 
 -- numbers and lists that grow with each record
 module _ (π : Account → ℕ) (f : Event → ℕ) (step : (a : Account) (e : Event) → π (noted a e) ≡ π a + f e) where
@@ -95,7 +94,7 @@ tally-adds k t (event.Item Missed q s) = lost-adds (role k s) t
 tally-adds k t (event.Frame kind q f) = adds-nothing t
 tally-adds k t (event.MadeGood q m n) = good-adds (role k (symbol.Mark m)) n t
 
-freed-adds : (n : ℕ) (e : Event) → freed-after n e ≡ n + length (frame-in Freed e)
+freed-adds : (n : ℕ) (e : Event) → by-frame one-freed as-it-was as-it-was n e ≡ n + length (frame-in Freed e)
 freed-adds n (event.Tick t) = omega arith
 freed-adds n (event.Item kind q s) = omega arith
 freed-adds n (event.Frame Freed q f) = omega arith
@@ -103,7 +102,7 @@ freed-adds n (event.Frame Injected q f) = omega arith
 freed-adds n (event.Frame Collected q f) = omega arith
 freed-adds n (event.MadeGood q m k) = omega arith
 
-puts-last : (ss : List Symbol) (e : Event) → puts-after ss e ≡ ss ++ symbol-in Put e
+puts-last : (ss : List Symbol) (e : Event) → by-item last as-it-was as-it-was ss e ≡ ss ++ symbol-in Put e
 puts-last ss (event.Tick t) = sym (append-nil ss)
 puts-last ss (event.Item Put q s) = refl
 puts-last ss (event.Item Got q s) = sym (append-nil ss)
@@ -116,7 +115,7 @@ frame-is-last fs (symbol.Frame f) = refl
 frame-is-last fs symbol.RRdy = sym (append-nil fs)
 frame-is-last fs (symbol.Mark m) = sym (append-nil fs)
 
-lost-last : (fs : List Frame) (e : Event) → lost-after fs e ≡ fs ++ frames-among (symbol-in Missed e)
+lost-last : (fs : List Frame) (e : Event) → by-item as-it-was as-it-was frame-last fs e ≡ fs ++ frames-among (symbol-in Missed e)
 lost-last fs (event.Tick t) = sym (append-nil fs)
 lost-last fs (event.Item Put q s) = sym (append-nil fs)
 lost-last fs (event.Item Got q s) = sym (append-nil fs)
@@ -124,7 +123,7 @@ lost-last fs (event.Item Missed q s) = frame-is-last fs s
 lost-last fs (event.Frame kind q f) = sym (append-nil fs)
 lost-last fs (event.MadeGood q m k) = sym (append-nil fs)
 
-injected-last : (fs : List Frame) (e : Event) → injected-after fs e ≡ fs ++ frame-in Injected e
+injected-last : (fs : List Frame) (e : Event) → by-frame as-it-was last as-it-was fs e ≡ fs ++ frame-in Injected e
 injected-last fs (event.Tick t) = sym (append-nil fs)
 injected-last fs (event.Item kind q s) = sym (append-nil fs)
 injected-last fs (event.Frame Freed q f) = sym (append-nil fs)
@@ -132,7 +131,7 @@ injected-last fs (event.Frame Injected q f) = refl
 injected-last fs (event.Frame Collected q f) = sym (append-nil fs)
 injected-last fs (event.MadeGood q m k) = sym (append-nil fs)
 
-collected-last : (fs : List Frame) (e : Event) → collected-after fs e ≡ fs ++ frame-in Collected e
+collected-last : (fs : List Frame) (e : Event) → by-frame as-it-was as-it-was last fs e ≡ fs ++ frame-in Collected e
 collected-last fs (event.Tick t) = sym (append-nil fs)
 collected-last fs (event.Item kind q s) = sym (append-nil fs)
 collected-last fs (event.Frame Freed q f) = sym (append-nil fs)
@@ -150,7 +149,7 @@ taken-good k [] = refl
 taken-good k (t ∷ []) = refl
 taken-good k (t ∷ u ∷ ts) = ap {B = List Symbol} (λ z. t .symbol ∷ z) (taken-good k (u ∷ ts))
 
-took-symbols : (ts : List Passage) (e : Event) → taken-symbols (took ts e) ≡ taken-after (taken-symbols ts) e
+took-symbols : (ts : List Passage) (e : Event) → taken-symbols (took ts e) ≡ by-item as-it-was last last (taken-symbols ts) e
 took-symbols ts (event.Tick t) = refl
 took-symbols ts (event.Item Put q s) = refl
 took-symbols ts (event.Item Got q s) = taken-snoc ts _
@@ -160,7 +159,7 @@ took-symbols ts (event.MadeGood q m k) = taken-good k ts
 
 took-taken : (a : Account) (es : Log) → taken-symbols (a .takes) ≡ a .taken → taken-symbols (noted-all a es .takes) ≡ noted-all a es .taken
 took-taken a [] h = h
-took-taken a (e ∷ es) h = took-taken (noted a e) es (took-symbols (a .takes) e ∙ ap (λ (z : List Symbol). taken-after z e) h)
+took-taken a (e ∷ es) h = took-taken (noted a e) es (took-symbols (a .takes) e ∙ ap (λ (z : List Symbol). by-item as-it-was last last z e) h)
 
 took-takes : (a : Account) (es : Log) → noted-all a es .takes ≡ took-all (a .takes) es
 took-takes a [] = refl

@@ -12,7 +12,7 @@ use Rattle.log.specs.declared.event.Event.{Event}
 use Rattle.symbol.specs.declared.Frame.{Frame}
 use Rattle.bank.specs.Bank.{BankCalls}
 use Rattle.model.specs.Figures.{lost-frames, injected, collected}
-use Rattle.model.specs.Laws.{numbers}
+use Rattle.model.specs.OnePlace.{numbers}
 use Rattle.model.proofs.Told.{frames-append, told}
 use Rattle.model.specs.Run.{Log}
 use Rattle.model.proofs.Accounts.{Account, noted, noted-all, account, no-account}
@@ -20,7 +20,8 @@ use Rattle.model.specs.Figures.{records, frames-among}
 use Rattle.model.specs.declared.End.{End}
 use Rattle.model.specs.declared.End.the-variants.{West, East}
 use Rattle.model.specs.Chain.{Chain, behind, port-of, end-port}
-use Rattle.model.specs.Laws.{on, up-to, times, InOrderOf, nothing, left-out, next, over-links, opposite, hop, taker, at-hop, places}
+use Rattle.model.specs.Chain.{on, opposite}
+use Rattle.model.specs.OnePlace.{up-to, times, InOrderOf, nothing, left-out, next, over-links, hop, taker, at-hop, places}
 use Rattle.model.proofs.Places.{facing-is, behind-is}
 use Rattle.model.proofs.Kept.{Invariant}
 use Rattle.symbol.specs.declared.Symbol.the-variants as symbol
@@ -136,51 +137,51 @@ up-to-in (suc n) k h e = go (cases-eq k (suc n)) (λ z. up-to-in n k h z)
     go (inr q) r = omega (arith, how-often-append k (up-to n) (suc n ∷ []), r (let m : k ≢ suc n = q in omega arith), ap {B = ℕ} (λ (t : Bool). cond t 1 0) (ne-eqb k (suc n) q))
 
 module _ {B : Type 0} (M : BankCalls B) (c : Chain B) where
-  hop-first : (e : End) → hop M c e 0 ≡ end-port c e
+  hop-first : (e : End) → hop c e 0 ≡ end-port c e
   hop-first West = omega arith
   hop-first East = omega arith
 
-  pub hop-below : (e : End) (i : ℕ) → i < c .links → hop M c e i < 2 * c .links
+  pub hop-below : (e : End) (i : ℕ) → i < c .links → hop c e i < 2 * c .links
   hop-below West i h = omega arith
   hop-below East i h = omega arith
 
-  hop-inner : (e : End) (i : ℕ) → suc i < c .links → (hop M c e (suc i) ≢ 0) × (hop M c e (suc i) ≢ 2 * c .links - 1)
+  hop-inner : (e : End) (i : ℕ) → suc i < c .links → (hop c e (suc i) ≢ 0) × (hop c e (suc i) ≢ 2 * c .links - 1)
   hop-inner West i h = (λ d. omega arith, λ d. omega arith)
   hop-inner East i h = (λ d. omega arith, λ d. omega arith)
 
-  hop-next : (e : End) (i : ℕ) → suc i < c .links → behind (hop M c e (suc i)) ≡ taker M c e i
+  hop-next : (e : End) (i : ℕ) → suc i < c .links → behind (hop c e (suc i)) ≡ taker c e i
   hop-next West i h = omega (arith, behind-is (2 * suc i), facing-is (2 * i))
   hop-next East i h = omega (arith, behind-is (2 * c .links - 1 - 2 * suc i), facing-is (2 * c .links - 1 - 2 * i))
 
-  hop-last : (e : End) (i : ℕ) → suc i ≡ c .links → taker M c e i ≡ end-port c (opposite e)
+  hop-last : (e : End) (i : ℕ) → suc i ≡ c .links → taker c e i ≡ end-port c (opposite e)
   hop-last West i h = omega (arith, facing-is (2 * i))
   hop-last East i h = omega (arith, facing-is (2 * c .links - 1 - 2 * i))
 
   module _ (l : Log) (h : Invariant M c l) (some : 0 < c .links) (e : End) where
     -- what was put on the i-th direction is taken or on it
-    put-is : (i : ℕ) → i < c .links → frames-among (account (hop M c e i) l .puts) ≡ frames-among (account (taker M c e i) l .taken) ++ frames-among (on M c (hop M c e i))
-    put-is i lt = ap frames-among (h .loops (hop M c e i) (taker M c e i) (hop-below e i lt) refl .order) ∙ frames-append (account (taker M c e i) l .taken) (on M c (hop M c e i))
+    put-is : (i : ℕ) → i < c .links → frames-among (account (hop c e i) l .puts) ≡ frames-among (account (taker c e i) l .taken) ++ frames-among (on M c (hop c e i))
+    put-is i lt = ap frames-among (h .loops (hop c e i) (taker c e i) (hop-below e i lt) refl .order) ∙ frames-append (account (taker c e i) l .taken) (on M c (hop c e i))
 
-    put-times : (i k : ℕ) → i < c .links → times k (frames-among (account (hop M c e i) l .puts))
-        ≡ times k (account (taker M c e i) l .got) + times k (lost-frames (taker M c e i) l) + times k (frames-among (on M c (hop M c e i)))
-    put-times i k lt = omega (arith, ap (times k) (put-is i lt), times-append k (frames-among (account (taker M c e i) l .taken)) (frames-among (on M c (hop M c e i))), taken-of (taker M c e i) l .each k, ap (times k) (told (taker M c e i) l .lost-are))
+    put-times : (i k : ℕ) → i < c .links → times k (frames-among (account (hop c e i) l .puts))
+        ≡ times k (account (taker c e i) l .got) + times k (lost-frames (taker c e i) l) + times k (frames-among (on M c (hop c e i)))
+    put-times i k lt = omega (arith, ap (times k) (put-is i lt), times-append k (frames-among (account (taker c e i) l .taken)) (frames-among (on M c (hop c e i))), taken-of (taker c e i) l .each k, ap (times k) (told (taker c e i) l .lost-are))
 
     -- the first direction is fed by the outbox, each other by the port before it
-    first-is : injected (end-port c e) l ≡ frames-among (account (hop M c e 0) l .puts) ++ port-of c (end-port c e) .outbox .frames
+    first-is : injected (end-port c e) l ≡ frames-among (account (hop c e 0) l .puts) ++ port-of c (end-port c e) .outbox .frames
     first-is = sym (told (end-port c e) l .injected-are) ∙ h .fed e some ∙ ap {B = List Frame} (λ p. frames-among (account p l .puts) ++ port-of c (end-port c e) .outbox .frames) (sym (hop-first e))
 
-    next-is : (i : ℕ) → suc i < c .links → account (taker M c e i) l .got ≡ frames-among (account (hop M c e (suc i)) l .puts) ++ port-of c (taker M c e i) .buffers .waiting
-    next-is i lt = h .passed-on (hop M c e (suc i)) (taker M c e i) (hop-below e (suc i) lt) (hop-inner e i lt .0) (hop-inner e i lt .1) (hop-next e i lt)
+    next-is : (i : ℕ) → suc i < c .links → account (taker c e i) l .got ≡ frames-among (account (hop c e (suc i)) l .puts) ++ port-of c (taker c e i) .buffers .waiting
+    next-is i lt = h .passed-on (hop c e (suc i)) (taker c e i) (hop-below e (suc i) lt) (hop-inner e i lt .0) (hop-inner e i lt .1) (hop-next e i lt)
 
-    last-is : (i : ℕ) → suc i ≡ c .links → account (taker M c e i) l .got ≡ collected (end-port c (opposite e)) l ++ port-of c (taker M c e i) .buffers .waiting
+    last-is : (i : ℕ) → suc i ≡ c .links → account (taker c e i) l .got ≡ collected (end-port c (opposite e)) l ++ port-of c (taker c e i) .buffers .waiting
     last-is i z = subst (λ (p : ℕ). account p l .got ≡ collected (end-port c (opposite e)) l ++ port-of c p .buffers .waiting) (sym (hop-last e i z)) (h .handed (opposite e) some ∙ ap {B = List Frame} (λ fs. fs ++ port-of c (end-port c (opposite e)) .buffers .waiting) (told (end-port c (opposite e)) l .collected-are))
 
     -- where the injected frames are, as far as the i-th direction
     reach : (i : ℕ) → i < c .links → (k : ℕ) → times k (injected (end-port c e) l)
         ≡ times k (port-of c (end-port c e) .outbox .frames) + over-links (at-hop M c l e k) i
-        + times k (frames-among (on M c (hop M c e i))) + times k (lost-frames (taker M c e i) l) + times k (account (taker M c e i) l .got)
-    reach zero lt k = omega (arith, ap (times k) first-is, times-append k (frames-among (account (hop M c e 0) l .puts)) (port-of c (end-port c e) .outbox .frames), put-times 0 k lt)
-    reach (suc i) lt k = omega (arith, reach i (omega arith) k, ap (times k) (next-is i lt), times-append k (frames-among (account (hop M c e (suc i)) l .puts)) (port-of c (taker M c e i) .buffers .waiting), put-times (suc i) k lt)
+        + times k (frames-among (on M c (hop c e i))) + times k (lost-frames (taker c e i) l) + times k (account (taker c e i) l .got)
+    reach zero lt k = omega (arith, ap (times k) first-is, times-append k (frames-among (account (hop c e 0) l .puts)) (port-of c (end-port c e) .outbox .frames), put-times 0 k lt)
+    reach (suc i) lt k = omega (arith, reach i (omega arith) k, ap (times k) (next-is i lt), times-append k (frames-among (account (hop c e (suc i)) l .puts)) (port-of c (taker c e i) .buffers .waiting), put-times (suc i) k lt)
 
     pub places-are : (k : ℕ) → places M c l e k ≡ times k (injected (end-port c e) l)
     places-are k = go (c .links) refl
@@ -188,22 +189,22 @@ module _ {B : Type 0} (M : BankCalls B) (c : Chain B) where
         go : (n : ℕ) → c .links ≡ n → places M c l e k ≡ times k (injected (end-port c e) l)
         go zero z = absurd (omega arith)
         go (suc i) z = ap (λ (n : ℕ). times k (port-of c (end-port c e) .outbox .frames) + over-links (at-hop M c l e k) n + times k (collected (end-port c (opposite e)) l)) z
-            ∙ omega (arith, reach i (omega arith) k, ap (times k) (last-is i (sym z)), times-append k (collected (end-port c (opposite e)) l) (port-of c (taker M c e i) .buffers .waiting))
+            ∙ omega (arith, reach i (omega arith) k, ap (times k) (last-is i (sym z)), times-append k (collected (end-port c (opposite e)) l) (port-of c (taker c e i) .buffers .waiting))
 
     front-of : (xs ys zs : List Frame) → zs ≡ xs ++ ys → InOrderOf xs zs
     front-of xs ys zs q = subst (InOrderOf xs) (sym q) (in-order-front xs ys)
 
-    arrives : (i : ℕ) → i < c .links → InOrderOf (account (taker M c e i) l .got) (frames-among (account (hop M c e i) l .puts))
-    arrives i lt = in-order-trans (taken-of (taker M c e i) l .in-order) (front-of (frames-among (account (taker M c e i) l .taken)) (frames-among (on M c (hop M c e i))) (frames-among (account (hop M c e i) l .puts)) (put-is i lt))
+    arrives : (i : ℕ) → i < c .links → InOrderOf (account (taker c e i) l .got) (frames-among (account (hop c e i) l .puts))
+    arrives i lt = in-order-trans (taken-of (taker c e i) l .in-order) (front-of (frames-among (account (taker c e i) l .taken)) (frames-among (on M c (hop c e i))) (frames-among (account (hop c e i) l .puts)) (put-is i lt))
 
-    keeps-order : (i : ℕ) → i < c .links → InOrderOf (account (taker M c e i) l .got) (injected (end-port c e) l)
-    keeps-order zero lt = in-order-trans (arrives 0 lt) (front-of (frames-among (account (hop M c e 0) l .puts)) (port-of c (end-port c e) .outbox .frames) (injected (end-port c e) l) first-is)
+    keeps-order : (i : ℕ) → i < c .links → InOrderOf (account (taker c e i) l .got) (injected (end-port c e) l)
+    keeps-order zero lt = in-order-trans (arrives 0 lt) (front-of (frames-among (account (hop c e 0) l .puts)) (port-of c (end-port c e) .outbox .frames) (injected (end-port c e) l) first-is)
     keeps-order (suc i) lt = in-order-trans (arrives (suc i) lt)
-        (in-order-trans (front-of (frames-among (account (hop M c e (suc i)) l .puts)) (port-of c (taker M c e i) .buffers .waiting) (account (taker M c e i) l .got) (next-is i lt)) (keeps-order i (omega arith)))
+        (in-order-trans (front-of (frames-among (account (hop c e (suc i)) l .puts)) (port-of c (taker c e i) .buffers .waiting) (account (taker c e i) l .got) (next-is i lt)) (keeps-order i (omega arith)))
 
     pub collected-in-order : InOrderOf (collected (end-port c (opposite e)) l) (injected (end-port c e) l)
     collected-in-order = go (c .links) refl
       where
         go : (n : ℕ) → c .links ≡ n → InOrderOf (collected (end-port c (opposite e)) l) (injected (end-port c e) l)
         go zero z = absurd (omega arith)
-        go (suc i) z = in-order-trans (front-of (collected (end-port c (opposite e)) l) (port-of c (taker M c e i) .buffers .waiting) (account (taker M c e i) l .got) (last-is i (sym z))) (keeps-order i (omega arith))
+        go (suc i) z = in-order-trans (front-of (collected (end-port c (opposite e)) l) (port-of c (taker c e i) .buffers .waiting) (account (taker c e i) l .got) (last-is i (sym z))) (keeps-order i (omega arith))

@@ -71,6 +71,11 @@ freed-events links p (symbol.Mark m) = []
 abbrev pub sound : Symbol → Item
 sound s = record { symbol = s; note = Sound }
 
+-- the symbols of items
+abbrev pub symbols : List Item → List Symbol
+symbols [] = []
+symbols (i ∷ is) = i .symbol ∷ symbols is
+
 -- a call that is refused leaves the chain and writes nothing
 abbrev pub unless-refused : {S : Type 0} → Option Refusal → S → Turn S → Turn S
 unless-refused None c t = t
@@ -79,6 +84,10 @@ unless-refused (Some e) c t = no-act c
 abbrev pub answer : {S : Type 0} → Option Refusal → S → Result S Refusal
 answer None n = Ok n
 answer (Some e) n = Err e
+
+abbrev pub opposite : End → End
+opposite West = East
+opposite East = West
 
 -- a port of a table
 abbrev pub port-at : List Port → ℕ → Port
@@ -95,7 +104,7 @@ module _ {B : Type 0} where
   end-port c West = 0
   end-port c East = last-port c
 
-  -- the port of an end, as it stands
+  -- the port at an end
   abbrev pub port-at-end : Chain B → End → Port
   port-at-end c e = port-of c (end-port c e)
 
@@ -114,6 +123,10 @@ module _ {B : Type 0} where
   each-port f (ℕ.suc k) c = and-then (each-port f k c) (λ d. f d k)
 
 module _ {B : Type 0} (M : BankCalls B) where
+  -- the symbols on direction d, sound or noted lost
+  abbrev pub on : Chain B → ℕ → List Symbol
+  on c d = symbols (M .known (c .bank) d .items)
+
   -- none of the channels below n holds an item
   abbrev pub all-idle : B → ℕ → Bool
   all-idle b ℕ.zero = true

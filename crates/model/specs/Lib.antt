@@ -4,5 +4,9 @@ pub mod Chain
 pub mod Run
 pub mod Figures
 pub mod Stretches
+pub mod CreditSum
+pub mod WholeParts
+pub mod OnePlace
+pub mod RecordsTell
 pub mod Laws
 pub mod Worked

@@ -14,11 +14,11 @@ use Rattle.links.specs.Links.{WireStates, RingStates, one-link, three-links, lo
 use Rattle.model.specs.declared.End.{End}
 use Rattle.model.specs.declared.End.the-variants.{West, East}
 use Rattle.model.specs.Port.{Port, Turn, no-act, and-then, lost-of}
-use Rattle.model.specs.Chain.{Chain, cabled, logins, injects, steps, port-of, port-at-end}
+use Rattle.model.specs.Chain.{Chain, cabled, logins, injects, steps, port-of, port-at-end, opposite}
 use Rattle.model.specs.Run.{Log, Run, is-running}
 use Rattle.model.specs.Figures.{Frames, missing}
 use Rattle.model.specs.Stretches.{Stretch, losses, left-missing, stretches}
-use Rattle.model.specs.Laws.{opposite, way-lost}
+use Rattle.model.specs.RecordsTell.{way-lost}
 
 -- what a mark finds lost, by N and the frames got
 abbrev pub LossTable : Type 0
@@ -44,10 +44,10 @@ module _ {B : Type 0} (M : BankCalls B) where
   stepping zero t = t
   stepping (suc n) t = and-then (stepping n t) (λ c. steps M c room)
 
-  -- what the page shows of the frames injected at an end: how many there were, were collected and were reported lost
-  abbrev pub way-line : Chain B → End → List ℕ
-  way-line c e =
-      port-at-end c e .outbox .injected ∷ port-at-end c (opposite e) .buffers .handed ∷ way-lost M c e ∷ []
+-- what the page shows of the frames injected at an end: how many there were, were collected and were reported lost
+abbrev pub way-line : {B : Type 0} → Chain B → End → List ℕ
+way-line c e =
+    port-at-end c e .outbox .injected ∷ port-at-end c (opposite e) .buffers .handed ∷ way-lost c e ∷ []
 
 -- and of a port: limit, in use, held, owed, frames lost and made good, R_RDYs lost and made good
 abbrev pub line : Port → List ℕ
@@ -87,8 +87,8 @@ pub record SixSteps : Type 0 where
   pub run : Run one-link one-lost is-running (six-steps .state) (six-steps .events)
   pub port-0 : line (port-of (six-steps .state) 0) ≡ 2 ∷ 2 ∷ 0 ∷ 0 ∷ 0 ∷ 0 ∷ 0 ∷ 0 ∷ []
   pub port-1 : line (port-of (six-steps .state) 1) ≡ 2 ∷ 0 ∷ 2 ∷ 0 ∷ 1 ∷ 1 ∷ 0 ∷ 0 ∷ []
-  pub east : way-line one-link (six-steps .state) West ≡ 3 ∷ 0 ∷ 1 ∷ []
-  pub west : way-line one-link (six-steps .state) East ≡ 0 ∷ 0 ∷ 0 ∷ []
+  pub east : way-line (six-steps .state) West ≡ 3 ∷ 0 ∷ 1 ∷ []
+  pub west : way-line (six-steps .state) East ≡ 0 ∷ 0 ∷ 0 ∷ []
   pub tick-4 : encode-all (of-tick 4 (six-steps .events)) ≡ fourth-tick
 
 -- Three links of 32 buffers and N 4, on the middle one of which some frames east are lost.
