@@ -64,7 +64,10 @@ one-got mark t = record {
   losses = record {
     lost = t .losses .lost;
     good = t .losses .good;
-    cut = record { ended = record { fates = t .losses .cut .still-open; good = 0 } ∷ t .losses .cut .ended; still-open = [] };
+    cut = record {
+      ended = record { fates = t .losses .cut .still-open; good = 0 } ∷ t .losses .cut .ended;
+      still-open = [];
+    };
   };
 }
 one-got other t = t

@@ -38,17 +38,20 @@ module _ {B : Type 0} (M : BankCalls B) (law : (b : B) → LawfulBank M b) where
       kind true z = ap (λ (t : Bool). cond t (noted-lost (sound s)) (sound s) .symbol) z
       kind false z = ap (λ (t : Bool). cond t (noted-lost (sound s)) (sound s) .symbol) z
 
-      go : (d < count M b) ⊎ (count M b ≤ d) → symbols (M .known (M .put b d (sound s)) d .items) ≡ symbols (M .known b d .items) ++ (s ∷ [])
+      go : (d < count M b) ⊎ (count M b ≤ d)
+          → symbols (M .known (M .put b d (sound s)) d .items) ≡ symbols (M .known b d .items) ++ (s ∷ [])
       go (inl h) =
           ap symbols (law b .channels d h .put-last (sound s) e)
           ∙ symbols-snoc (M .known b d .items) (received (channel-at M d) b (sound s))
           ∙ ap {B = List Symbol} (λ z. symbols (M .known b d .items) ++ (z ∷ [])) (kind (M .loses b d (sound s)) refl)
       go (inr h) = absurd (false≢true (sym (ap (λ (k : Known). k .space) (law b .beyond d h)) ∙ e))
 
-  pub bank-put-off : (b : B) (d p : ℕ) (s : Symbol) → p ≢ d → symbols (M .known (M .put b d (sound s)) p .items) ≡ symbols (M .known b p .items)
+  pub bank-put-off : (b : B) (d p : ℕ) (s : Symbol) → p ≢ d
+      → symbols (M .known (M .put b d (sound s)) p .items) ≡ symbols (M .known b p .items)
   bank-put-off b d p s n = ap (λ (k : Known). symbols (k .items)) (law b .put-others d p (sound s) n)
 
-  pub bank-take-off : (b : B) (d p : ℕ) → p ≢ d → symbols (M .known (M .take b d) p .items) ≡ symbols (M .known b p .items)
+  pub bank-take-off : (b : B) (d p : ℕ) → p ≢ d
+      → symbols (M .known (M .take b d) p .items) ≡ symbols (M .known b p .items)
   bank-take-off b d p n = ap (λ (k : Known). symbols (k .items)) (law b .take-others d p n)
 
   -- a take hands out a ready first item, or changes nothing
@@ -59,7 +62,8 @@ module _ {B : Type 0} (M : BankCalls B) (law : (b : B) → LawfulBank M b) where
       go (inl h) = law b .channels d h .take-none e
       go (inr h) = law b .take-beyond d h
 
-  pub bank-take : (b : B) (d : ℕ) (i : Item) (is : List Item) → M .known b d .ready ≡ true → M .known b d .items ≡ i ∷ is → M .known (M .take b d) d .items ≡ is
+  pub bank-take : (b : B) (d : ℕ) (i : Item) (is : List Item) → M .known b d .ready ≡ true
+      → M .known b d .items ≡ i ∷ is → M .known (M .take b d) d .items ≡ is
   bank-take b d i is e f = go (cases-lt d (count M b))
     where
       go : (d < count M b) ⊎ (count M b ≤ d) → M .known (M .take b d) d .items ≡ is

@@ -38,7 +38,10 @@ six-steps-out = record {
 
 pub three-made-good : ThreeMadeGood
 three-made-good = record {
-  run = stepping-runs three-links (some-lost 5 3) 45 _ (injecting-runs three-links (some-lost 5 3) 16 _ (start (login 2 32 32 4 4 (login 1 32 32 4 4 (login 0 32 32 4 4 new)))));
+  run =
+      stepping-runs three-links (some-lost 5 3) 45 _
+      (injecting-runs three-links (some-lost 5 3) 16 _
+      (start (login 2 32 32 4 4 (login 1 32 32 4 4 (login 0 32 32 4 4 new)))));
   stretch = refl;
   port-2 = refl;
   port-3 = refl;
@@ -46,7 +49,10 @@ three-made-good = record {
 
 pub sixteen-missing : SixteenMissing
 sixteen-missing = record {
-  run = stepping-runs three-links (some-lost 17 16) 60 _ (injecting-runs three-links (some-lost 17 16) 32 _ (start (login 2 32 32 4 4 (login 1 32 32 4 4 (login 0 32 32 4 4 new)))));
+  run =
+      stepping-runs three-links (some-lost 17 16) 60 _
+      (injecting-runs three-links (some-lost 17 16) 32 _
+      (start (login 2 32 32 4 4 (login 1 32 32 4 4 (login 0 32 32 4 4 new)))));
   stretch = refl;
   missing-16 = refl;
   port-2 = refl;

@@ -31,17 +31,27 @@ Cut a = CutInto (a .takes) (a .frames .losses .cut) (a .rrdys .losses .cut)
 module _ (ts : List Passage) (x y : Stretches) (h : CutInto ts x y) (s : Symbol) where
   -- one more is taken
   pub cut-more : (f : Fate)
-      → CutInto (ts ++ (record { symbol = s; fate = f } ∷ [])) (and-one x (role Frames s) f) (and-one y (role RRdys s) f)
+      → CutInto (ts ++ (record { symbol = s; fate = f } ∷ [])) (and-one x (role Frames s) f)
+      (and-one y (role RRdys s) f)
   cut-more f = record {
-    frames = cut-snoc Frames nothing-put ts (record { symbol = s; fate = f }) ∙ ap (λ (z : Stretches). and-one z (role Frames s) f) (h .frames);
-    rrdys = cut-snoc RRdys nothing-put ts (record { symbol = s; fate = f }) ∙ ap (λ (z : Stretches). and-one z (role RRdys s) f) (h .rrdys);
+    frames = cut-snoc Frames nothing-put ts (record {
+      symbol = s;
+      fate = f;
+    }) ∙ ap (λ (z : Stretches). and-one z (role Frames s) f) (h .frames);
+    rrdys = cut-snoc RRdys nothing-put ts (record {
+      symbol = s;
+      fate = f;
+    }) ∙ ap (λ (z : Stretches). and-one z (role RRdys s) f) (h .rrdys);
   }
 
   -- and a made good record follows
   pub cut-good : (k : ℕ)
       → CutInto (last-good k (ts ++ (record { symbol = s; fate = Arrived 0 } ∷ [])))
       (and-one x (role Frames s) (more-good k (Arrived 0))) (and-one y (role RRdys s) (more-good k (Arrived 0)))
-  cut-good k = let e = last-good-snoc k ts (record { symbol = s; fate = Arrived 0 }) in let m = cut-more (more-good k (Arrived 0)) in record {
+  cut-good k = let e = last-good-snoc k ts (record {
+    symbol = s;
+    fate = Arrived 0;
+  }) in let m = cut-more (more-good k (Arrived 0)) in record {
     frames = ap (cut Frames nothing-put) e ∙ m .frames;
     rrdys = ap (cut RRdys nothing-put) e ∙ m .rrdys;
   }
@@ -73,7 +83,8 @@ one-under-way x y counted h = record { ended = h .ended; lost = omega (arith, h 
 one-under-way x y mark h = h
 one-under-way x y other h = h
 
-all-on-the-way : (k : Stream) (x y : Stretches) (ss : List Symbol) → SameLosses x y → SameLosses x (cut k y (all-under-way ss))
+all-on-the-way : (k : Stream) (x y : Stretches) (ss : List Symbol) → SameLosses x y
+    → SameLosses x (cut k y (all-under-way ss))
 all-on-the-way k x y [] h = h
 all-on-the-way k x y (s ∷ ss) h = all-on-the-way k x (and-one y (role k s) UnderWay) ss (one-under-way x y (role k s) h)
 
@@ -81,5 +92,8 @@ all-on-the-way k x y (s ∷ ss) h = all-on-the-way k x (and-one y (role k s) Und
 pub put-stretches : (k : Stream) (ps : List Symbol) (ts : List Passage) (ss : List Symbol) (x : Stretches)
     → ps ≡ taken-symbols ts ++ ss → cut k nothing-put ts ≡ x → SameLosses x (cut k nothing-put (paired ps ts))
 put-stretches k ps ts ss x e f =
-    subst (SameLosses x) (sym (ap (λ (z : List Symbol). cut k nothing-put (paired z ts)) e ∙ ap (cut k nothing-put) (paired-taken ts ss) ∙ cut-append k nothing-put ts (all-under-way ss) ∙ ap (λ (z : Stretches). cut k z (all-under-way ss)) f))
+    subst (SameLosses x)
+    (sym
+    (ap (λ (z : List Symbol). cut k nothing-put (paired z ts)) e ∙ ap (cut k nothing-put) (paired-taken ts ss)
+    ∙ cut-append k nothing-put ts (all-under-way ss) ∙ ap (λ (z : Stretches). cut k z (all-under-way ss)) f))
     (all-on-the-way k x x ss (record { ended = refl; lost = refl }))

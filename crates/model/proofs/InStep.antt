@@ -46,9 +46,11 @@ pub counted-snoc : (rs : List Role) (r : Role) → counted-in (rs ++ (r ∷ []))
 counted-snoc [] r = omega arith
 counted-snoc (x ∷ xs) r = omega (arith, counted-snoc xs r)
 
-marks-snoc : (m x : ℕ) (rs : List Role) (r : Role) → Marks m x rs → AtMark r m (x + counted-in rs) → Marks m x (rs ++ (r ∷ []))
+marks-snoc : (m x : ℕ) (rs : List Role) (r : Role) → Marks m x rs → AtMark r m (x + counted-in rs)
+    → Marks m x (rs ++ (r ∷ []))
 marks-snoc m x [] r h a = (subst (AtMark r m) (omega arith) a, tt)
-marks-snoc m x (y ∷ ys) r h a = (h .0, marks-snoc m (x + one-counted y) ys r (h .1) (subst (AtMark r m) (omega arith) a))
+marks-snoc m x (y ∷ ys) r h a =
+    (h .0, marks-snoc m (x + one-counted y) ys r (h .1) (subst (AtMark r m) (omega arith) a))
 
 -- marks look at the count modulo m only
 at-mark-mod : (m x y : ℕ) (r : Role) → x % m ≡ y % m → AtMark r m x → AtMark r m y
@@ -61,7 +63,11 @@ add-mod-eq m x y k e = sym (mod-add-mod x m k) ∙ ap (λ (z : ℕ). (z + k) % m
 
 marks-mod : (m x y : ℕ) (rs : List Role) → x % m ≡ y % m → Marks m x rs → Marks m y rs
 marks-mod m x y [] e h = tt
-marks-mod m x y (r ∷ rs) e h = (at-mark-mod m x y r e (h .0), marks-mod m (x + one-counted r) (y + one-counted r) rs (add-mod-eq m x y (one-counted r) e) (h .1))
+marks-mod m x y (r ∷ rs) e h = (
+  at-mark-mod m x y r e (h .0),
+  marks-mod m (x + one-counted r) (y + one-counted r) rs
+      (add-mod-eq m x y (one-counted r) e) (h .1),
+)
 
 -- the losses after one more counted got, one more lost, and a sound mark that makes k good
 abbrev pub with-got : Losses → Losses
@@ -87,17 +93,26 @@ with-mark x good k = record {
 
 module _ (n : ℕ) (out : Outflow) (got : ℕ) (x : Losses) where
   pub put-counted : (rs : List Role) → out .due ≡ false → InStep n out got rs x
-      → InStep n (record { sent = (out .sent + 1) % 2 ^ n; due = out .due || (eqb ((out .sent + 1) % 2 ^ n) 0 && ltb 0 n) }) got (rs ++ (counted ∷ [])) x
+      → InStep n (record {
+        sent = (out .sent + 1) % 2 ^ n;
+        due = out .due || (eqb ((out .sent + 1) % 2 ^ n) 0 && ltb 0 n);
+      }) got (rs ++ (counted ∷ [])) x
   put-counted rs off h = record {
-    sent-is = ap (λ (z : ℕ). (z + 1) % 2 ^ n) (h .sent-is) ∙ mod-add-mod (got + open-lost x + counted-in rs) (2 ^ n) 1 ∙ ap (λ (z : ℕ). z % 2 ^ n) (omega (arith, counted-snoc rs counted));
-    due-is = λ d. eqb-true _ _ (and-parts _ _ (subst (λ (t : Bool). (t || (eqb ((out .sent + 1) % 2 ^ n) 0 && ltb 0 n)) ≡ true) off d) .0);
+    sent-is = ap (λ (z : ℕ). (z + 1) % 2 ^ n) (h .sent-is) ∙ mod-add-mod (got + open-lost x + counted-in rs) (2 ^ n) 1
+        ∙ ap (λ (z : ℕ). z % 2 ^ n) (omega (arith, counted-snoc rs counted));
+    due-is =
+        λ d. eqb-true _ _
+        (and-parts _ _ (subst (λ (t : Bool). (t || (eqb ((out .sent + 1) % 2 ^ n) 0 && ltb 0 n)) ≡ true) off d) .0);
     marks = marks-snoc _ _ rs counted (h .marks) tt;
     below = h .below;
     good = h .good;
     ended = h .ended;
   }
 
-  pub put-mark : (rs : List Role) → out .due ≡ true → InStep n out got rs x → InStep n (record { sent = out .sent; due = false }) got (rs ++ (mark ∷ [])) x
+  pub put-mark : (rs : List Role) → out .due ≡ true → InStep n out got rs x → InStep n (record {
+    sent = out .sent;
+    due = false;
+  }) got (rs ++ (mark ∷ [])) x
   put-mark rs d h = record {
     sent-is = h .sent-is ∙ ap (λ (z : ℕ). z % 2 ^ n) (omega (arith, counted-snoc rs mark));
     due-is = λ e. h .due-is d;
@@ -142,20 +157,35 @@ module _ (n : ℕ) (out : Outflow) (got : ℕ) (x : Losses) where
     marks = marks-mod _ _ _ rs (ap (λ (z : ℕ). z % 2 ^ n) (omega arith)) (h .marks .1);
     below = h .below;
     good = omega (arith, h .good);
-    ended = record { each = h .ended .each; all-lost = omega (arith, h .ended .all-lost); all-good = h .ended .all-good };
+    ended = record {
+      each = h .ended .each;
+      all-lost = omega (arith, h .ended .all-lost);
+      all-good = h .ended .all-good;
+    };
   }
 
   got-more : (k : ℕ) → ((got + 1) % 2 ^ n + open-lost x + k) % 2 ^ n ≡ (got + open-lost x + suc k) % 2 ^ n
-  got-more k = ap (λ (z : ℕ). z % 2 ^ n) (omega arith) ∙ mod-add-mod (got + 1) (2 ^ n) (open-lost x + k) ∙ ap (λ (z : ℕ). z % 2 ^ n) (omega arith)
+  got-more k = ap (λ (z : ℕ). z % 2 ^ n) (omega arith) ∙ mod-add-mod (got + 1) (2 ^ n) (open-lost x + k)
+      ∙ ap (λ (z : ℕ). z % 2 ^ n) (omega arith)
 
-  pub get-counted : (rs : List Role) → InStep n out got (counted ∷ rs) x → InStep n out ((got + 1) % 2 ^ n) rs (with-got x)
+  pub get-counted : (rs : List Role) → InStep n out got (counted ∷ rs) x
+      → InStep n out ((got + 1) % 2 ^ n) rs (with-got x)
   get-counted rs h = record {
-    sent-is = h .sent-is ∙ sym (ap (λ (z : ℕ). z % 2 ^ n) (omega arith) ∙ got-more (counted-in rs) ∙ ap (λ (z : ℕ). z % 2 ^ n) (omega arith));
+    sent-is = h .sent-is
+        ∙ sym
+        (ap (λ (z : ℕ). z % 2 ^ n) (omega arith) ∙ got-more (counted-in rs) ∙ ap (λ (z : ℕ). z % 2 ^ n) (omega arith));
     due-is = h .due-is;
-    marks = marks-mod _ _ _ rs (ap (λ (z : ℕ). z % 2 ^ n) (omega arith) ∙ sym (got-more 0) ∙ ap (λ (z : ℕ). z % 2 ^ n) (omega arith)) (h .marks .1);
+    marks =
+        marks-mod _ _ _ rs
+        (ap (λ (z : ℕ). z % 2 ^ n) (omega arith) ∙ sym (got-more 0) ∙ ap (λ (z : ℕ). z % 2 ^ n) (omega arith))
+        (h .marks .1);
     below = mod-lt (got + 1) (pow-pos n);
     good = omega (arith, h .good);
-    ended = record { each = h .ended .each; all-lost = omega (arith, h .ended .all-lost); all-good = h .ended .all-good };
+    ended = record {
+      each = h .ended .each;
+      all-lost = omega (arith, h .ended .all-lost);
+      all-good = h .ended .all-good;
+    };
   }
 
   -- what a sound mark finds lost is what was lost since the last, modulo 2^n
@@ -170,13 +200,24 @@ module _ (n : ℕ) (out : Outflow) (got : ℕ) (x : Losses) where
   pub get-mark : (rs : List Role) → InStep n out got (mark ∷ rs) x
       → InStep n out 0 rs (with-mark x (x .good + lost-of n got) (lost-of n got))
   get-mark rs h = record {
-    sent-is = h .sent-is ∙ ap (λ (z : ℕ). z % 2 ^ n) (omega arith) ∙ add-mod-eq (2 ^ n) (got + open-lost x) 0 (counted-in rs) (h .marks .0 ∙ sym (zero-mod (2 ^ n))) ∙ ap (λ (z : ℕ). z % 2 ^ n) (omega arith);
+    sent-is = h .sent-is ∙ ap (λ (z : ℕ). z % 2 ^ n) (omega arith)
+        ∙ add-mod-eq (2 ^ n) (got + open-lost x) 0 (counted-in rs) (h .marks .0 ∙ sym (zero-mod (2 ^ n)))
+        ∙ ap (λ (z : ℕ). z % 2 ^ n) (omega arith);
     due-is = h .due-is;
-    marks = marks-mod _ _ _ rs (ap (λ (z : ℕ). z % 2 ^ n) (omega arith) ∙ h .marks .0 ∙ sym (zero-mod (2 ^ n))) (h .marks .1);
+    marks =
+        marks-mod _ _ _ rs (ap (λ (z : ℕ). z % 2 ^ n) (omega arith) ∙ h .marks .0 ∙ sym (zero-mod (2 ^ n)))
+        (h .marks .1);
     below = pow-pos n;
     good = omega (arith, found rs h, mod-le (open-lost x) (2 ^ n), h .good);
     ended = record {
-      each = (record { at-most = omega (arith, found rs h, mod-le (open-lost x) (2 ^ n)); whole = omega (arith, found rs h, mod-add-div (open-lost x) (2 ^ n)); few = λ z. omega (arith, found rs h, mod-eq-of-lt z) }, h .ended .each);
+      each = (
+        record {
+          at-most = omega (arith, found rs h, mod-le (open-lost x) (2 ^ n));
+          whole = omega (arith, found rs h, mod-add-div (open-lost x) (2 ^ n));
+          few = λ z. omega (arith, found rs h, mod-eq-of-lt z);
+        },
+        h .ended .each,
+      );
       all-lost = omega (arith, h .ended .all-lost);
       all-good = omega (arith, h .ended .all-good);
     };

@@ -61,10 +61,12 @@ links-same f g (suc n) h = omega (arith, links-same f g n (λ i z. h i (omega ar
 module _ {B : Type 0} (M : BankCalls B) (law : (b : B) → LawfulBank M b) where
   module _ (c : Chain B) (l : Log) (h : Invariant M c l) (few : Bounded c) (timed : c .tick ≡ ticks l) where
     -- the loop in which port p sends frames, and the one in which it takes them
-    sends-in : (p : ℕ) → p < 2 * c .links → Loop (port-of c p) (port-of c (facing p)) (on M c p) (on M c (facing p)) (account p l) (account (facing p) l)
+    sends-in : (p : ℕ) → p < 2 * c .links
+        → Loop (port-of c p) (port-of c (facing p)) (on M c p) (on M c (facing p)) (account p l) (account (facing p) l)
     sends-in p lt = h .loops p (facing p) lt refl
 
-    takes-in : (p : ℕ) → p < 2 * c .links → Loop (port-of c (facing p)) (port-of c p) (on M c (facing p)) (on M c p) (account (facing p) l) (account p l)
+    takes-in : (p : ℕ) → p < 2 * c .links
+        → Loop (port-of c (facing p)) (port-of c p) (on M c (facing p)) (on M c p) (account (facing p) l) (account p l)
     takes-in p lt = h .loops (facing p) p (facing-below (c .links) p (facing p) refl lt) (facing-back p (facing p) refl)
 
     sum-of-six : (p : ℕ) → p < 2 * c .links → SumOfSix M c l p
@@ -74,7 +76,17 @@ module _ {B : Type 0} (M : BankCalls B) (law : (b : B) → LawfulBank M b) where
         record {
           limit = sends-in p lt .figures .limit-is;
           within = sends-in p lt .figures .within;
-          sum = omega (arith, sends-in p lt .figures .sum, sends-in p lt .frames .good, sends-in p lt .rrdys .good, q .frames-lost, q .frames-good, s .rrdys-lost, s .rrdys-good);
+          sum =
+              omega (
+                arith,
+                sends-in p lt .figures .sum,
+                sends-in p lt .frames .good,
+                sends-in p lt .rrdys .good,
+                q .frames-lost,
+                q .frames-good,
+                s .rrdys-lost,
+                s .rrdys-good,
+              );
           frames-good = omega (arith, sends-in p lt .frames .good, q .frames-lost, q .frames-good);
           rrdys-good = omega (arith, sends-in p lt .rrdys .good, s .rrdys-lost, s .rrdys-good);
         }
@@ -86,7 +98,8 @@ module _ {B : Type 0} (M : BankCalls B) (law : (b : B) → LawfulBank M b) where
           let t = told p before in
           omega (
             arith,
-            room-at (λ q. port-of c q .buffers .all) [] before after (event.Item Got p (symbol.Frame f)) (subst (AllMeetRoom (λ q. port-of c q .buffers .all) []) e (h .room)),
+            room-at (λ q. port-of c q .buffers .all) [] before after (event.Item Got p (symbol.Frame f))
+                (subst (AllMeetRoom (λ q. port-of c q .buffers .all) []) e (h .room)),
             t .frames-got,
             t .frames-good,
             t .freed-is,
@@ -96,7 +109,8 @@ module _ {B : Type 0} (M : BankCalls B) (law : (b : B) → LawfulBank M b) where
           let t = told p before in
           omega (
             arith,
-            room-at (λ q. port-of c q .buffers .all) [] before after (event.Item Got p symbol.RRdy) (subst (AllMeetRoom (λ q. port-of c q .buffers .all) []) e (h .room)),
+            room-at (λ q. port-of c q .buffers .all) [] before after (event.Item Got p symbol.RRdy)
+                (subst (AllMeetRoom (λ q. port-of c q .buffers .all) []) e (h .room)),
             t .frames-put,
             t .rrdys-got,
             t .rrdys-good,
@@ -105,10 +119,12 @@ module _ {B : Type 0} (M : BankCalls B) (law : (b : B) → LawfulBank M b) where
 
     in-turn : (p : ℕ) → p < 2 * c .links → puts p l ≡ taken-symbols (taken (facing p) l) ++ on M c p
     in-turn p lt =
-        sym (told p l .puts-are) ∙ sends-in p lt .order ∙ ap {B = List Symbol} (λ z. z ++ on M c p) (told (facing p) l .taken-are)
+        sym (told p l .puts-are) ∙ sends-in p lt .order
+        ∙ ap {B = List Symbol} (λ z. z ++ on M c p) (told (facing p) l .taken-are)
 
     -- the whole parts of the account are those of the stretches of the puts
-    wholes : (p : ℕ) (k : Stream) (x : Losses) → Wholes (port-of c p .n) x → x .lost ≡ reported-lost k (facing p) l → x .good ≡ made-good k (facing p) l
+    wholes : (p : ℕ) (k : Stream) (x : Losses) → Wholes (port-of c p .n) x → x .lost ≡ reported-lost k (facing p) l
+        → x .good ≡ made-good k (facing p) l
         → SameLosses (x .cut) (stretches k p l) → InParts (port-of c p .n) k p l
     wholes p k x w lost good same = record {
       each = subst (Each (WholePart (port-of c p .n))) (sym (same .ended)) (w .each);
@@ -119,14 +135,21 @@ module _ {B : Type 0} (M : BankCalls B) (law : (b : B) → LawfulBank M b) where
     parts : (p : ℕ) (k : Stream) → p < 2 * c .links → InParts (port-of c p .n) k p l
     parts p Frames lt =
         let q = told (facing p) l in
-        wholes p Frames (account (facing p) l .frames .losses) (sends-in p lt .frames .ended) (q .frames-lost) (q .frames-good)
-        (put-stretches Frames (puts p l) (taken (facing p) l) (on M c p) (account (facing p) l .frames .losses .cut) (in-turn p lt)
-        (ap (cut Frames nothing-put) (sym (q .takes-are)) ∙ h .cuts (facing p) (facing-below (c .links) p (facing p) refl lt) .frames))
+        wholes p Frames (account (facing p) l .frames .losses) (sends-in p lt .frames .ended) (q .frames-lost)
+        (q .frames-good)
+        (put-stretches Frames (puts p l) (taken (facing p) l) (on M c p) (account (facing p) l .frames .losses .cut)
+        (in-turn p lt)
+        (ap (cut Frames nothing-put) (sym (q .takes-are))
+        ∙ h .cuts (facing p) (facing-below (c .links) p (facing p) refl lt) .frames))
     parts p RRdys lt =
         let q = told (facing p) l in
-        wholes p RRdys (account (facing p) l .rrdys .losses) (subst (λ (n : ℕ). Wholes n (account (facing p) l .rrdys .losses)) (takes-in p lt .figures .same-n) (takes-in p lt .rrdys .ended)) (q .rrdys-lost) (q .rrdys-good)
-        (put-stretches RRdys (puts p l) (taken (facing p) l) (on M c p) (account (facing p) l .rrdys .losses .cut) (in-turn p lt)
-        (ap (cut RRdys nothing-put) (sym (q .takes-are)) ∙ h .cuts (facing p) (facing-below (c .links) p (facing p) refl lt) .rrdys))
+        wholes p RRdys (account (facing p) l .rrdys .losses)
+        (subst (λ (n : ℕ). Wholes n (account (facing p) l .rrdys .losses)) (takes-in p lt .figures .same-n)
+        (takes-in p lt .rrdys .ended)) (q .rrdys-lost) (q .rrdys-good)
+        (put-stretches RRdys (puts p l) (taken (facing p) l) (on M c p) (account (facing p) l .rrdys .losses .cut)
+        (in-turn p lt)
+        (ap (cut RRdys nothing-put) (sym (q .takes-are))
+        ∙ h .cuts (facing p) (facing-below (c .links) p (facing p) refl lt) .rrdys))
 
     port-told : (p : ℕ) → p < 2 * c .links → PortTold c l p
     port-told p lt = let t = told p l in record {
@@ -134,19 +157,36 @@ module _ {B : Type 0} (M : BankCalls B) (law : (b : B) → LawfulBank M b) where
       owed-is = omega (arith, takes-in p lt .figures .owed-is, t .freed-is, t .frames-good, t .rrdys-put);
       used-is = omega (arith, sends-in p lt .figures .used-is, t .frames-put, t .rrdys-got, t .rrdys-good);
       frames-lost = sym frames-lost ∙ t .frames-lost;
-      frames-good = sym (exact (takes-in p lt .figures .frames-good) (omega (arith, takes-in p lt .frames .good, frames-lost, few .ports p .frames-lost, few .tick))) ∙ t .frames-good;
+      frames-good =
+          sym
+          (exact (takes-in p lt .figures .frames-good)
+          (omega (
+            arith,
+            takes-in p lt .frames .good,
+            frames-lost,
+            few .ports p .frames-lost,
+            few .tick,
+          ))) ∙ t .frames-good;
       rrdys-lost = sym rrdys-lost ∙ t .rrdys-lost;
-      rrdys-good = sym (exact (sends-in p lt .figures .rrdys-good) (omega (arith, sends-in p lt .rrdys .good, rrdys-lost, few .ports p .rrdys-lost, few .tick))) ∙ t .rrdys-good;
-      handed-is = sym (exact-small (h .stocked p lt .1) (omega (arith, few .ports p .handed, few .tick))) ∙ ap length (t .collected-are);
+      rrdys-good =
+          sym
+          (exact (sends-in p lt .figures .rrdys-good)
+          (omega
+          (arith, sends-in p lt .rrdys .good, rrdys-lost, few .ports p .rrdys-lost, few .tick))) ∙ t .rrdys-good;
+      handed-is = sym (exact-small (h .stocked p lt .1) (omega (arith, few .ports p .handed, few .tick)))
+          ∙ ap length (t .collected-are);
     }
       where
         frames-lost : account p l .frames .losses .lost ≡ port-of c p .frames-in .lost
-        frames-lost = exact-small (takes-in p lt .figures .frames-lost) (omega (arith, few .ports p .frames-lost, few .tick))
+        frames-lost =
+            exact-small (takes-in p lt .figures .frames-lost) (omega (arith, few .ports p .frames-lost, few .tick))
 
         rrdys-lost : account p l .rrdys .losses .lost ≡ port-of c p .rrdys-in .lost
-        rrdys-lost = exact-small (sends-in p lt .figures .rrdys-lost) (omega (arith, few .ports p .rrdys-lost, few .tick))
+        rrdys-lost =
+            exact-small (sends-in p lt .figures .rrdys-lost) (omega (arith, few .ports p .rrdys-lost, few .tick))
 
-    numbered : (e : End) → 0 < c .links → numbers (injected (end-port c e) l) ≡ up-to (port-at-end c e .outbox .injected)
+    numbered : (e : End) → 0 < c .links
+        → numbers (injected (end-port c e) l) ≡ up-to (port-at-end c e .outbox .injected)
     numbered e some = ap numbers (sym (told (end-port c e) l .injected-are)) ∙ h .numbered e some
 
     of-one-end : (e : End) → 0 < c .links → OfOneEnd M c l e
@@ -158,14 +198,18 @@ module _ {B : Type 0} (M : BankCalls B) (law : (b : B) → LawfulBank M b) where
     }
       where
         often : (k : ℕ) → places M c l e k ≡ how-often k (up-to (port-at-end c e .outbox .injected))
-        often k = places-are M c l h some e k ∙ times-often k (injected (end-port c e) l) ∙ ap (how-often k) (numbered e some)
+        often k = places-are M c l h some e k ∙ times-often k (injected (end-port c e) l)
+            ∙ ap (how-often k) (numbered e some)
 
     taker-below : (e : End) (i : ℕ) → i < c .links → taker c e i < 2 * c .links
     taker-below e i z = facing-below (c .links) (hop c e i) (taker c e i) refl (hop-below M c e i z)
 
     way-told : (e : End) → 0 < c .links → WayTold c l e
     way-told e some = record {
-      injected-is = sym (sym (length-numbers (injected (end-port c e) l)) ∙ ap length (numbered e some) ∙ length-up-to (port-at-end c e .outbox .injected));
+      injected-is =
+          sym
+          (sym (length-numbers (injected (end-port c e) l)) ∙ ap length (numbered e some)
+          ∙ length-up-to (port-at-end c e .outbox .injected));
       collected-is = port-told (end-port c (opposite e)) (end-below c (opposite e) some) .handed-is;
       lost-is = links-same _ _ (c .links) (λ i z. port-told (taker c e i) (taker-below e i z) .frames-lost);
     }
@@ -176,20 +220,35 @@ module _ {B : Type 0} (M : BankCalls B) (law : (b : B) → LawfulBank M b) where
       limit = w .limit;
       n = w .n;
       used = sends-in p lt .figures .within;
-      room = omega (arith, takes-in p lt .figures .sum, takes-in p lt .figures .within, takes-in p lt .figures .limit-is, takes-in p lt .frames .good, takes-in p lt .rrdys .good);
+      room =
+          omega (
+            arith,
+            takes-in p lt .figures .sum,
+            takes-in p lt .figures .within,
+            takes-in p lt .figures .limit-is,
+            takes-in p lt .frames .good,
+            takes-in p lt .rrdys .good,
+          );
       stocked = h .stocked p lt .0;
-      frames-sent = subst (λ (z : ℕ). z < 2 ^ port-of c p .n) (sym (sends-in p lt .frames .sent-is)) (mod-lt _ (pow-pos (port-of c p .n)));
-      frames-got = subst (λ (z : ℕ). port-of c p .frames-in .got < 2 ^ z) (takes-in p lt .figures .same-n) (takes-in p lt .frames .below);
+      frames-sent =
+          subst (λ (z : ℕ). z < 2 ^ port-of c p .n) (sym (sends-in p lt .frames .sent-is))
+          (mod-lt _ (pow-pos (port-of c p .n)));
+      frames-got =
+          subst (λ (z : ℕ). port-of c p .frames-in .got < 2 ^ z) (takes-in p lt .figures .same-n)
+          (takes-in p lt .frames .below);
       rrdys-sent = subst (λ (z : ℕ). port-of c p .rrdys-out .sent < 2 ^ z) (takes-in p lt .figures .same-n)
-          (subst (λ (z : ℕ). z < 2 ^ port-of c (facing p) .n) (sym (takes-in p lt .rrdys .sent-is)) (mod-lt _ (pow-pos (port-of c (facing p) .n))));
+          (subst (λ (z : ℕ). z < 2 ^ port-of c (facing p) .n) (sym (takes-in p lt .rrdys .sent-is))
+          (mod-lt _ (pow-pos (port-of c (facing p) .n))));
       rrdys-got = sends-in p lt .rrdys .below;
       outbox = w .outbox;
       injected = omega (arith, w .injected, w .outbox);
       collected = omega (arith, w .handed);
       frames-lost = w .frames-lost;
       rrdys-lost = w .rrdys-lost;
-      frames-good = omega (arith, takes-in p lt .frames .good, r .frames-lost, r .frames-good, t .frames-lost, t .frames-good);
-      rrdys-good = omega (arith, sends-in p lt .rrdys .good, r .rrdys-lost, r .rrdys-good, t .rrdys-lost, t .rrdys-good);
+      frames-good =
+          omega (arith, takes-in p lt .frames .good, r .frames-lost, r .frames-good, t .frames-lost, t .frames-good);
+      rrdys-good =
+          omega (arith, sends-in p lt .rrdys .good, r .rrdys-lost, r .rrdys-good, t .rrdys-lost, t .rrdys-good);
     }
 
     holds : Holds M c l
@@ -209,16 +268,21 @@ module _ {B : Type 0} (M : BankCalls B) (law : (b : B) → LawfulBank M b) where
   every-run b ph c l r = holds c l (run-invariant M law b ph c l r) (run-bounded M law r) (run-ticks M law r)
 
   -- each call continues every run: from c to c′ by turn t
-  onward : (ph ph′ : Phase) (c c′ : Chain B) (t : Turn (Chain B)) → c′ ≡ t .state → ((b : B) (l : Log) → Run M b ph c l → Run M b ph′ (t .state) (l ++ t .events)) → Continues M ph ph′ c c′ (t .events)
+  onward : (ph ph′ : Phase) (c c′ : Chain B) (t : Turn (Chain B)) → c′ ≡ t .state
+      → ((b : B) (l : Log) → Run M b ph c l → Run M b ph′ (t .state) (l ++ t .events))
+      → Continues M ph ph′ c c′ (t .events)
   onward ph ph′ c c′ t e f =
-      subst (λ (d : Chain B). Continues M ph ph′ c d (t .events)) (sym e) (λ b l r. (f b l r, every-run b ph′ (t .state) (l ++ t .events) (f b l r)))
+      subst (λ (d : Chain B). Continues M ph ph′ c d (t .events)) (sym e)
+      (λ b l r. (f b l r, every-run b ph′ (t .state) (l ++ t .events) (f b l r)))
 
   -- a call that writes nothing
   silent : {b : B} {ph : Phase} {c : Chain B} {l : Log} → Run M b ph c l → Run M b ph c (l ++ [])
   silent {b} {ph} {c} {l} r = subst (Run M b ph c) (sym (append-nil l)) r
 
-  pub login-continues : (c c′ : Chain B) (k x y m n : ℕ) → c′ ≡ logins M c k x y m n .state → Continues M is-cabled is-cabled c c′ []
-  login-continues c c′ k x y m n e = onward is-cabled is-cabled c c′ (no-act (logins M c k x y m n .state)) e (λ b l r. silent (login k x y m n r))
+  pub login-continues : (c c′ : Chain B) (k x y m n : ℕ) → c′ ≡ logins M c k x y m n .state
+      → Continues M is-cabled is-cabled c c′ []
+  login-continues c c′ k x y m n e =
+      onward is-cabled is-cabled c c′ (no-act (logins M c k x y m n .state)) e (λ b l r. silent (login k x y m n r))
 
   pub start-continues : (c c′ : Chain B) → c′ ≡ c → Continues M is-cabled is-running c c′ []
   start-continues c c′ e = onward is-cabled is-running c c′ (no-act c) e (λ b l r. silent (start r))
@@ -226,14 +290,18 @@ module _ {B : Type 0} (M : BankCalls B) (law : (b : B) → LawfulBank M b) where
   pub drain-continues : (c c′ : Chain B) → c′ ≡ c → Continues M is-running is-draining c c′ []
   drain-continues c c′ e = onward is-running is-draining c c′ (no-act c) e (λ b l r. silent (drain r))
 
-  pub inject-continues : (c c′ : Chain B) (e : End) (room : ℕ) → c′ ≡ injects M c e room .state → Continues M is-running is-running c c′ (injects M c e room .events)
+  pub inject-continues : (c c′ : Chain B) (e : End) (room : ℕ) → c′ ≡ injects M c e room .state
+      → Continues M is-running is-running c c′ (injects M c e room .events)
   inject-continues c c′ e room z = onward is-running is-running c c′ (injects M c e room) z (λ b l r. inject e room r)
 
-  pub step-continues : {ph : Phase} → Moving ph → (c c′ : Chain B) (room : ℕ) → c′ ≡ steps M c room .state → Continues M ph ph c c′ (steps M c room .events)
+  pub step-continues : {ph : Phase} → Moving ph → (c c′ : Chain B) (room : ℕ) → c′ ≡ steps M c room .state
+      → Continues M ph ph c c′ (steps M c room .events)
   step-continues {ph} m c c′ room z = onward ph ph c c′ (steps M c room) z (λ b l r. step m room r)
 
-  pub collect-continues : {ph : Phase} → Moving ph → (c c′ : Chain B) (e : End) (room : ℕ) → c′ ≡ collects M c e room .state → Continues M ph ph c c′ (collects M c e room .events)
+  pub collect-continues : {ph : Phase} → Moving ph → (c c′ : Chain B) (e : End) (room : ℕ)
+      → c′ ≡ collects M c e room .state → Continues M ph ph c c′ (collects M c e room .events)
   collect-continues {ph} m c c′ e room z = onward ph ph c c′ (collects M c e room) z (λ b l r. collect m e room r)
 
-  pub release-continues : {ph : Phase} → Moving ph → (c c′ : Chain B) (e : End) (k room : ℕ) → c′ ≡ releases M c e k room .state → Continues M ph ph c c′ (releases M c e k room .events)
+  pub release-continues : {ph : Phase} → Moving ph → (c c′ : Chain B) (e : End) (k room : ℕ)
+      → c′ ≡ releases M c e k room .state → Continues M ph ph c c′ (releases M c e k room .events)
   release-continues {ph} m c c′ e k room z = onward ph ph c c′ (releases M c e k room) z (λ b l r. release m e k room r)

@@ -32,7 +32,8 @@ pub length-without : (k : ℕ) (xs : List ℕ) → length (without k xs) ≤ len
 length-without k [] = omega arith
 length-without k (x ∷ xs) = go (eqb x k) (length-without k xs)
   where
-    go : (t : Bool) → length (without k xs) ≤ length xs → length (cond t (without k xs) (x ∷ without k xs)) ≤ suc (length xs)
+    go : (t : Bool) → length (without k xs) ≤ length xs
+        → length (cond t (without k xs) (x ∷ without k xs)) ≤ suc (length xs)
     go true e = omega arith
     go false e = omega arith
 
@@ -40,6 +41,7 @@ pub fewer-without : (k : ℕ) (xs : List ℕ) → among k xs ≡ true → length
 fewer-without k [] e = absurd (false≢true e)
 fewer-without k (x ∷ xs) e = go (eqb x k) e (fewer-without k xs)
   where
-    go : (t : Bool) → (t || among k xs) ≡ true → (among k xs ≡ true → length (without k xs) + 1 ≤ length xs) → length (cond t (without k xs) (x ∷ without k xs)) + 1 ≤ suc (length xs)
+    go : (t : Bool) → (t || among k xs) ≡ true → (among k xs ≡ true → length (without k xs) + 1 ≤ length xs)
+        → length (cond t (without k xs) (x ∷ without k xs)) + 1 ≤ suc (length xs)
     go true e r = omega (arith, length-without k xs)
     go false e r = omega (arith, r e)

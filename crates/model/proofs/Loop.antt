@@ -1,4 +1,5 @@
--- One loop of credit: the port that sends frames, the port that takes them and sends R_RDYs, and what is under way between them.
+-- One loop of credit: the port that sends frames, the port that takes them and sends R_RDYs, and what is under way
+-- between them.
 use mathlib.Core.Path.{_≡_, refl, sym, ap, subst, _∙_}
 use mathlib.Core.Bool.{Bool, true, false, cond, _&&_, _||_}
 use mathlib.Core.List.{List, [], _∷_, _++_, append-assoc}
@@ -121,7 +122,8 @@ pub roles-snoc : (k : Stream) (xs : List Symbol) (y : Symbol) → roles k (xs ++
 roles-snoc k [] y = refl
 roles-snoc k (x ∷ xs) y = ap {B = List Role} (λ r. role k x ∷ r) (roles-snoc k xs y)
 
-how-many-snoc : (k : Stream) (xs : List Symbol) (y : Symbol) → how-many k (xs ++ (y ∷ [])) ≡ how-many k xs + one-counted (role k y)
+how-many-snoc : (k : Stream) (xs : List Symbol) (y : Symbol)
+    → how-many k (xs ++ (y ∷ [])) ≡ how-many k xs + one-counted (role k y)
 how-many-snoc k xs y = ap counted-in (roles-snoc k xs y) ∙ counted-snoc (roles k xs) (role k y)
 
 taken-next : (xs : List Symbol) (y : Symbol) (ys zs : List Symbol) → zs ≡ xs ++ (y ∷ ys) → zs ≡ xs ++ (y ∷ []) ++ ys
@@ -172,9 +174,11 @@ frames-account : (at : ℕ) (a : Account) (k : ℕ) (t : Bool) → eqb k 0 ≡ t
     ≡ frames-marked a (a .frames .losses .good + k) k (mark-taken a (symbol.Mark BbScS) k)
 frames-account at a k true e =
     ap (λ (g : ℕ). frames-marked a g 0 (mark-taken a (symbol.Mark BbScS) 0)) (sym (add-zero (a .frames .losses .good)))
-    ∙ ap (λ (x : ℕ). frames-marked a (a .frames .losses .good + x) x (mark-taken a (symbol.Mark BbScS) x)) (sym (eqb-true k 0 e))
+    ∙ ap (λ (x : ℕ). frames-marked a (a .frames .losses .good + x) x (mark-taken a (symbol.Mark BbScS) x))
+    (sym (eqb-true k 0 e))
 frames-account at a k false e =
-    ap (frames-marked a (a .frames .losses .good + k) (0 + k)) (last-good-snoc k (a .takes) (record { symbol = symbol.Mark BbScS; fate = Arrived 0 }))
+    ap (frames-marked a (a .frames .losses .good + k) (0 + k))
+    (last-good-snoc k (a .takes) (record { symbol = symbol.Mark BbScS; fate = Arrived 0 }))
     ∙ ap (λ (x : ℕ). frames-marked a (a .frames .losses .good + k) x (mark-taken a (symbol.Mark BbScS) x)) (zero-add k)
 
 rrdys-account : (at : ℕ) (a : Account) (k : ℕ) (t : Bool) → eqb k 0 ≡ t
@@ -182,9 +186,11 @@ rrdys-account : (at : ℕ) (a : Account) (k : ℕ) (t : Bool) → eqb k 0 ≡ t
     ≡ rrdys-marked a (a .rrdys .losses .good + k) k (mark-taken a (symbol.Mark BbScR) k)
 rrdys-account at a k true e =
     ap (λ (g : ℕ). rrdys-marked a g 0 (mark-taken a (symbol.Mark BbScR) 0)) (sym (add-zero (a .rrdys .losses .good)))
-    ∙ ap (λ (x : ℕ). rrdys-marked a (a .rrdys .losses .good + x) x (mark-taken a (symbol.Mark BbScR) x)) (sym (eqb-true k 0 e))
+    ∙ ap (λ (x : ℕ). rrdys-marked a (a .rrdys .losses .good + x) x (mark-taken a (symbol.Mark BbScR) x))
+    (sym (eqb-true k 0 e))
 rrdys-account at a k false e =
-    ap (rrdys-marked a (a .rrdys .losses .good + k) (0 + k)) (last-good-snoc k (a .takes) (record { symbol = symbol.Mark BbScR; fate = Arrived 0 }))
+    ap (rrdys-marked a (a .rrdys .losses .good + k) (0 + k))
+    (last-good-snoc k (a .takes) (record { symbol = symbol.Mark BbScR; fate = Arrived 0 }))
     ∙ ap (λ (x : ℕ). rrdys-marked a (a .rrdys .losses .good + k) x (mark-taken a (symbol.Mark BbScR) x)) (zero-add k)
 
 abbrev one-more : Outflow → ℕ → Outflow
@@ -198,32 +204,80 @@ MayPut p (symbol.Mark BbScS) = p .frames-out .due ≡ true
 MayPut p (symbol.Mark BbScR) = p .rrdys-out .due ≡ true
 
 module _ (at : ℕ) (s r : Port) (fwd back : List Symbol) (a b : Account) where
-  pub sender-misses : (y : Symbol) → Loop s r fwd (y ∷ back) a b → Loop (missed s y) r fwd back (noted a (event.Item Missed at y)) b
-  sender-misses (symbol.Frame k) h = record { figures = omega (arith, h); frames = h .frames; rrdys = take-other _ _ _ _ _ (h .rrdys); order = h .order }
-  sender-misses symbol.RRdy h = record { figures = omega (arith, h); frames = h .frames; rrdys = lose-counted _ _ _ _ _ (h .rrdys); order = h .order }
-  sender-misses (symbol.Mark BbScS) h = record { figures = omega (arith, h); frames = h .frames; rrdys = take-other _ _ _ _ _ (h .rrdys); order = h .order }
-  sender-misses (symbol.Mark BbScR) h = record { figures = omega (arith, h); frames = h .frames; rrdys = lose-mark _ _ _ _ _ (h .rrdys); order = h .order }
+  pub sender-misses : (y : Symbol) → Loop s r fwd (y ∷ back) a b
+      → Loop (missed s y) r fwd back (noted a (event.Item Missed at y)) b
+  sender-misses (symbol.Frame k) h = record {
+    figures = omega (arith, h);
+    frames = h .frames;
+    rrdys = take-other _ _ _ _ _ (h .rrdys);
+    order = h .order;
+  }
+  sender-misses symbol.RRdy h = record {
+    figures = omega (arith, h);
+    frames = h .frames;
+    rrdys = lose-counted _ _ _ _ _ (h .rrdys);
+    order = h .order;
+  }
+  sender-misses (symbol.Mark BbScS) h = record {
+    figures = omega (arith, h);
+    frames = h .frames;
+    rrdys = take-other _ _ _ _ _ (h .rrdys);
+    order = h .order;
+  }
+  sender-misses (symbol.Mark BbScR) h = record {
+    figures = omega (arith, h);
+    frames = h .frames;
+    rrdys = lose-mark _ _ _ _ _ (h .rrdys);
+    order = h .order;
+  }
 
-  pub receiver-misses : (y : Symbol) → Loop s r (y ∷ fwd) back a b → Loop s (missed r y) fwd back a (noted b (event.Item Missed at y))
-  receiver-misses (symbol.Frame k) h = record { figures = omega (arith, h); frames = lose-counted _ _ _ _ _ (h .frames); rrdys = h .rrdys; order = taken-next _ _ _ _ (h .order) }
-  receiver-misses symbol.RRdy h = record { figures = omega (arith, h); frames = take-other _ _ _ _ _ (h .frames); rrdys = h .rrdys; order = taken-next _ _ _ _ (h .order) }
-  receiver-misses (symbol.Mark BbScS) h = record { figures = omega (arith, h); frames = lose-mark _ _ _ _ _ (h .frames); rrdys = h .rrdys; order = taken-next _ _ _ _ (h .order) }
-  receiver-misses (symbol.Mark BbScR) h = record { figures = omega (arith, h); frames = take-other _ _ _ _ _ (h .frames); rrdys = h .rrdys; order = taken-next _ _ _ _ (h .order) }
+  pub receiver-misses : (y : Symbol) → Loop s r (y ∷ fwd) back a b
+      → Loop s (missed r y) fwd back a (noted b (event.Item Missed at y))
+  receiver-misses (symbol.Frame k) h = record {
+    figures = omega (arith, h);
+    frames = lose-counted _ _ _ _ _ (h .frames);
+    rrdys = h .rrdys;
+    order = taken-next _ _ _ _ (h .order);
+  }
+  receiver-misses symbol.RRdy h = record {
+    figures = omega (arith, h);
+    frames = take-other _ _ _ _ _ (h .frames);
+    rrdys = h .rrdys;
+    order = taken-next _ _ _ _ (h .order);
+  }
+  receiver-misses (symbol.Mark BbScS) h = record {
+    figures = omega (arith, h);
+    frames = lose-mark _ _ _ _ _ (h .frames);
+    rrdys = h .rrdys;
+    order = taken-next _ _ _ _ (h .order);
+  }
+  receiver-misses (symbol.Mark BbScR) h = record {
+    figures = omega (arith, h);
+    frames = take-other _ _ _ _ _ (h .frames);
+    rrdys = h .rrdys;
+    order = taken-next _ _ _ _ (h .order);
+  }
 
   -- a frame, kept or dropped, is nothing to the loop in which the port sends
-  sender-holds : (k : Frame) (t : Bool) → Loop s r fwd back a b → Loop (cond t s (frame-held s k)) r fwd back (noted a (event.Item Got at (symbol.Frame k))) b
+  sender-holds : (k : Frame) (t : Bool) → Loop s r fwd back a b
+      → Loop (cond t s (frame-held s k)) r fwd back (noted a (event.Item Got at (symbol.Frame k))) b
   sender-holds k true h = h
   sender-holds k false h = h
 
-  sender-corrects : (k : ℕ) (t : Bool) → Loop s r fwd back a b → Loop (frames-corrected s) r fwd back (noted-all (noted a (event.Item Got at (symbol.Mark BbScS))) (cond t [] (event.MadeGood at BbScS k ∷ []))) b
+  sender-corrects : (k : ℕ) (t : Bool) → Loop s r fwd back a b
+      → Loop (frames-corrected s) r fwd back
+      (noted-all (noted a (event.Item Got at (symbol.Mark BbScS))) (cond t [] (event.MadeGood at BbScS k ∷ []))) b
   sender-corrects k true h = h
   sender-corrects k false h = h
 
   -- R_RDYs found lost: as many as were, and never more than the credit in use
   rrdys-found-is : Loop s r fwd (symbol.Mark BbScR ∷ back) a b → rrdys-found s ≡ lost-of (s .n) (s .rrdys-in .got)
-  rrdys-found-is h = least (lost-of (s .n) (s .rrdys-in .got)) (found _ _ _ _ _ (h .rrdys)) (mod-le (open-lost (a .rrdys .losses)) (2 ^ s .n))
+  rrdys-found-is h =
+      least (lost-of (s .n) (s .rrdys-in .got)) (found _ _ _ _ _ (h .rrdys))
+      (mod-le (open-lost (a .rrdys .losses)) (2 ^ s .n))
     where
-      least : (x : ℕ) → x ≡ open-lost (a .rrdys .losses) % 2 ^ s .n → open-lost (a .rrdys .losses) % 2 ^ s .n ≤ open-lost (a .rrdys .losses) → min x (s .credit .used) ≡ x
+      least : (x : ℕ) → x ≡ open-lost (a .rrdys .losses) % 2 ^ s .n
+          → open-lost (a .rrdys .losses) % 2 ^ s .n ≤ open-lost (a .rrdys .losses) → min x (s .credit .used) ≡ x
       least x e m = omega (arith, h)
 
   sender-marked : (k : ℕ) → k ≡ lost-of (s .n) (s .rrdys-in .got) → k ≤ open-lost (a .rrdys .losses)
@@ -232,19 +286,41 @@ module _ (at : ℕ) (s r : Port) (fwd back : List Symbol) (a b : Account) where
   sender-marked k e m h = record {
     figures = omega (arith, h, m);
     frames = h .frames;
-    rrdys = subst (λ (x : ℕ). InStep (s .n) (r .rrdys-out) 0 (roles RRdys back) (with-mark (a .rrdys .losses) (a .rrdys .losses .good + x) x)) (sym e) (get-mark _ _ _ _ _ (h .rrdys));
+    rrdys =
+        subst
+        (λ (x : ℕ). InStep (s .n) (r .rrdys-out) 0 (roles RRdys back)
+        (with-mark (a .rrdys .losses) (a .rrdys .losses .good + x) x)) (sym e) (get-mark _ _ _ _ _ (h .rrdys));
     order = h .order;
   }
 
-  pub sender-gets : (y : Symbol) → Loop s r fwd (y ∷ back) a b → Loop (arrived s y) r fwd back (noted-all a (taken-events at s Sound y)) b
-  sender-gets (symbol.Frame k) h = sender-holds k (is-full (s .buffers)) (record { figures = omega (arith, h); frames = h .frames; rrdys = take-other _ _ _ _ _ (h .rrdys); order = h .order })
+  pub sender-gets : (y : Symbol) → Loop s r fwd (y ∷ back) a b
+      → Loop (arrived s y) r fwd back (noted-all a (taken-events at s Sound y)) b
+  sender-gets (symbol.Frame k) h = sender-holds k (is-full (s .buffers)) (record {
+    figures = omega (arith, h);
+    frames = h .frames;
+    rrdys = take-other _ _ _ _ _ (h .rrdys);
+    order = h .order;
+  })
   sender-gets symbol.RRdy h =
-      subst (λ (z : Port). Loop z r fwd back (noted a (event.Item Got at symbol.RRdy)) b) (sym (cond-false _ s (credit-back s) (ne-eqb _ _ (λ e. omega (arith, h)))))
-      (record { figures = omega (arith, h); frames = h .frames; rrdys = get-counted _ _ _ _ _ (h .rrdys); order = h .order })
-  sender-gets (symbol.Mark BbScS) h = sender-corrects (frames-found s) (eqb (frames-found s) 0) (record { figures = omega (arith, h); frames = h .frames; rrdys = take-other _ _ _ _ _ (h .rrdys); order = h .order })
+      subst (λ (z : Port). Loop z r fwd back (noted a (event.Item Got at symbol.RRdy)) b)
+      (sym (cond-false _ s (credit-back s) (ne-eqb _ _ (λ e. omega (arith, h)))))
+      (record {
+        figures = omega (arith, h);
+        frames = h .frames;
+        rrdys = get-counted _ _ _ _ _ (h .rrdys);
+        order = h .order;
+      })
+  sender-gets (symbol.Mark BbScS) h = sender-corrects (frames-found s) (eqb (frames-found s) 0) (record {
+    figures = omega (arith, h);
+    frames = h .frames;
+    rrdys = take-other _ _ _ _ _ (h .rrdys);
+    order = h .order;
+  })
   sender-gets (symbol.Mark BbScR) h =
-      subst (λ (z : Account). Loop (rrdys-corrected s) r fwd back z b) (sym (rrdys-account at a (rrdys-found s) (eqb (rrdys-found s) 0) refl))
-      (sender-marked (rrdys-found s) (rrdys-found-is h) (omega (arith, rrdys-found-is h, found _ _ _ _ _ (h .rrdys), mod-le (open-lost (a .rrdys .losses)) (2 ^ s .n))) h)
+      subst (λ (z : Account). Loop (rrdys-corrected s) r fwd back z b)
+      (sym (rrdys-account at a (rrdys-found s) (eqb (rrdys-found s) 0) refl))
+      (sender-marked (rrdys-found s) (rrdys-found-is h)
+      (omega (arith, rrdys-found-is h, found _ _ _ _ _ (h .rrdys), mod-le (open-lost (a .rrdys .losses)) (2 ^ s .n))) h)
 
   receiver-credits : (t : Bool) → Loop s r fwd back a (with-taken b symbol.RRdy)
       → Loop s (cond t r (credit-back r)) fwd back a (noted b (event.Item Got at symbol.RRdy))
@@ -252,17 +328,21 @@ module _ (at : ℕ) (s r : Port) (fwd back : List Symbol) (a b : Account) where
   receiver-credits false h = h
 
   receiver-corrects : (k : ℕ) (t : Bool) → Loop s r fwd back a (with-taken b (symbol.Mark BbScR))
-      → Loop s (rrdys-corrected r) fwd back a (noted-all (noted b (event.Item Got at (symbol.Mark BbScR))) (cond t [] (event.MadeGood at BbScR k ∷ [])))
+      → Loop s (rrdys-corrected r) fwd back a
+      (noted-all (noted b (event.Item Got at (symbol.Mark BbScR))) (cond t [] (event.MadeGood at BbScR k ∷ [])))
   receiver-corrects k true h = h
   receiver-corrects k false h = h
 
   -- frames found lost: as many as were, and never more than the free buffers
   frames-found-is : Loop s r (symbol.Mark BbScS ∷ fwd) back a b → frames-found r ≡ lost-of (s .n) (r .frames-in .got)
   frames-found-is h =
-      least (lost-of (r .n) (r .frames-in .got)) (ap (λ (x : ℕ). lost-of x (r .frames-in .got)) (sym (h .figures .same-n)) ∙ found _ _ _ _ _ (h .frames)) (mod-le (open-lost (b .frames .losses)) (2 ^ s .n))
+      least (lost-of (r .n) (r .frames-in .got))
+      (ap (λ (x : ℕ). lost-of x (r .frames-in .got)) (sym (h .figures .same-n)) ∙ found _ _ _ _ _ (h .frames))
+      (mod-le (open-lost (b .frames .losses)) (2 ^ s .n))
       ∙ ap (λ (x : ℕ). lost-of x (r .frames-in .got)) (sym (h .figures .same-n))
     where
-      least : (x : ℕ) → x ≡ open-lost (b .frames .losses) % 2 ^ s .n → open-lost (b .frames .losses) % 2 ^ s .n ≤ open-lost (b .frames .losses)
+      least : (x : ℕ) → x ≡ open-lost (b .frames .losses) % 2 ^ s .n
+          → open-lost (b .frames .losses) % 2 ^ s .n ≤ open-lost (b .frames .losses)
           → min x (r .buffers .all - (r .buffers .held + r .buffers .owed)) ≡ x
       least x e m = omega (arith, h)
 
@@ -271,64 +351,141 @@ module _ (at : ℕ) (s r : Port) (fwd back : List Symbol) (a b : Account) where
       → Loop s (frames-made-good r k) fwd back a (frames-marked b (b .frames .losses .good + k) k (b .takes))
   receiver-marked k e m h = record {
     figures = omega (arith, h, m);
-    frames = subst (λ (x : ℕ). InStep (s .n) (s .frames-out) 0 (roles Frames fwd) (with-mark (b .frames .losses) (b .frames .losses .good + x) x)) (sym e) (get-mark _ _ _ _ _ (h .frames));
+    frames =
+        subst
+        (λ (x : ℕ). InStep (s .n) (s .frames-out) 0 (roles Frames fwd)
+        (with-mark (b .frames .losses) (b .frames .losses .good + x) x)) (sym e) (get-mark _ _ _ _ _ (h .frames));
     rrdys = h .rrdys;
     order = taken-next _ _ _ _ (h .order);
   }
 
-  pub receiver-gets : (y : Symbol) → Loop s r (y ∷ fwd) back a b → Loop s (arrived r y) fwd back a (noted-all b (taken-events at r Sound y))
+  pub receiver-gets : (y : Symbol) → Loop s r (y ∷ fwd) back a b
+      → Loop s (arrived r y) fwd back a (noted-all b (taken-events at r Sound y))
   receiver-gets (symbol.Frame k) h =
-      subst (λ (z : Port). Loop s z fwd back a (noted b (event.Item Got at (symbol.Frame k)))) (sym (cond-false _ r (frame-held r k) (ne-eqb _ _ (λ e. omega (arith, h)))))
+      subst (λ (z : Port). Loop s z fwd back a (noted b (event.Item Got at (symbol.Frame k))))
+      (sym (cond-false _ r (frame-held r k) (ne-eqb _ _ (λ e. omega (arith, h)))))
       (record {
         figures = omega (arith, h);
-        frames = subst (λ (x : ℕ). InStep (s .n) (s .frames-out) ((r .frames-in .got + 1) % 2 ^ x) (roles Frames fwd) (with-got (b .frames .losses))) (h .figures .same-n) (get-counted _ _ _ _ _ (h .frames));
+        frames =
+            subst
+            (λ (x : ℕ). InStep (s .n) (s .frames-out) ((r .frames-in .got + 1) % 2 ^ x) (roles Frames fwd)
+            (with-got (b .frames .losses))) (h .figures .same-n) (get-counted _ _ _ _ _ (h .frames));
         rrdys = h .rrdys;
         order = taken-next _ _ _ _ (h .order);
       })
-  receiver-gets symbol.RRdy h = receiver-credits (eqb (r .credit .used) 0) (record { figures = omega (arith, h); frames = take-other _ _ _ _ _ (h .frames); rrdys = h .rrdys; order = taken-next _ _ _ _ (h .order) })
+  receiver-gets symbol.RRdy h = receiver-credits (eqb (r .credit .used) 0) (record {
+    figures = omega (arith, h);
+    frames = take-other _ _ _ _ _ (h .frames);
+    rrdys = h .rrdys;
+    order = taken-next _ _ _ _ (h .order);
+  })
   receiver-gets (symbol.Mark BbScS) h =
-      subst (λ (z : Account). Loop s (frames-corrected r) fwd back a z) (sym (frames-account at b (frames-found r) (eqb (frames-found r) 0) refl))
-      (receiver-marked (frames-found r) (frames-found-is h) (omega (arith, frames-found-is h, found _ _ _ _ _ (h .frames), mod-le (open-lost (b .frames .losses)) (2 ^ s .n))) h)
-  receiver-gets (symbol.Mark BbScR) h = receiver-corrects (rrdys-found r) (eqb (rrdys-found r) 0) (record { figures = omega (arith, h); frames = take-other _ _ _ _ _ (h .frames); rrdys = h .rrdys; order = taken-next _ _ _ _ (h .order) })
+      subst (λ (z : Account). Loop s (frames-corrected r) fwd back a z)
+      (sym (frames-account at b (frames-found r) (eqb (frames-found r) 0) refl))
+      (receiver-marked (frames-found r) (frames-found-is h)
+      (omega
+      (arith, frames-found-is h, found _ _ _ _ _ (h .frames), mod-le (open-lost (b .frames .losses)) (2 ^ s .n))) h)
+  receiver-gets (symbol.Mark BbScR) h = receiver-corrects (rrdys-found r) (eqb (rrdys-found r) 0) (record {
+    figures = omega (arith, h);
+    frames = take-other _ _ _ _ _ (h .frames);
+    rrdys = h .rrdys;
+    order = taken-next _ _ _ _ (h .order);
+  })
 
   -- an item taken, sound or lost
-  pub sender-takes : (v : Note) (y : Symbol) → Loop s r fwd (y ∷ back) a b → Loop (received s v y) r fwd back (noted-all a (taken-events at s v y)) b
+  pub sender-takes : (v : Note) (y : Symbol) → Loop s r fwd (y ∷ back) a b
+      → Loop (received s v y) r fwd back (noted-all a (taken-events at s v y)) b
   sender-takes Sound y h = sender-gets y h
   sender-takes Lost y h = sender-misses y h
 
-  pub receiver-takes : (v : Note) (y : Symbol) → Loop s r (y ∷ fwd) back a b → Loop s (received r v y) fwd back a (noted-all b (taken-events at r v y))
+  pub receiver-takes : (v : Note) (y : Symbol) → Loop s r (y ∷ fwd) back a b
+      → Loop s (received r v y) fwd back a (noted-all b (taken-events at r v y))
   receiver-takes Sound y h = receiver-gets y h
   receiver-takes Lost y h = receiver-misses y h
 
   -- a symbol put
-  put-on : (y : Symbol) {o : Outflow} → InStep (s .n) o (r .frames-in .got) (roles Frames fwd ++ (role Frames y ∷ [])) (b .frames .losses)
+  put-on : (y : Symbol) {o : Outflow}
+      → InStep (s .n) o (r .frames-in .got) (roles Frames fwd ++ (role Frames y ∷ [])) (b .frames .losses)
       → InStep (s .n) o (r .frames-in .got) (roles Frames (fwd ++ (y ∷ []))) (b .frames .losses)
-  put-on y {o} h = subst (λ (z : List Role). InStep (s .n) o (r .frames-in .got) z (b .frames .losses)) (sym (roles-snoc Frames fwd y)) h
+  put-on y {o} h =
+      subst (λ (z : List Role). InStep (s .n) o (r .frames-in .got) z (b .frames .losses))
+      (sym (roles-snoc Frames fwd y)) h
 
-  pub sender-puts : (y : Symbol) → MayPut s y → Loop s r fwd back a b → Loop (has-sent s y) r (fwd ++ (y ∷ [])) back (noted a (event.Item Put at y)) b
-  sender-puts (symbol.Frame k) m h = record { figures = omega (arith, h, m, how-many-snoc Frames fwd (symbol.Frame k)); frames = put-on (symbol.Frame k) (put-counted _ _ _ _ _ (m .1) (h .frames)); rrdys = h .rrdys; order = puts-next (b .taken) fwd _ _ (h .order) }
-  sender-puts symbol.RRdy m h = record { figures = omega (arith, h, how-many-snoc Frames fwd symbol.RRdy); frames = put-on symbol.RRdy (put-other _ _ _ _ _ (h .frames)); rrdys = h .rrdys; order = puts-next (b .taken) fwd _ _ (h .order) }
-  sender-puts (symbol.Mark BbScS) m h = record { figures = omega (arith, h, how-many-snoc Frames fwd (symbol.Mark BbScS)); frames = put-on (symbol.Mark BbScS) (put-mark _ _ _ _ _ m (h .frames)); rrdys = h .rrdys; order = puts-next (b .taken) fwd _ _ (h .order) }
-  sender-puts (symbol.Mark BbScR) m h = record { figures = omega (arith, h, how-many-snoc Frames fwd (symbol.Mark BbScR)); frames = put-on (symbol.Mark BbScR) (put-other _ _ _ _ _ (h .frames)); rrdys = h .rrdys; order = puts-next (b .taken) fwd _ _ (h .order) }
+  pub sender-puts : (y : Symbol) → MayPut s y → Loop s r fwd back a b
+      → Loop (has-sent s y) r (fwd ++ (y ∷ [])) back (noted a (event.Item Put at y)) b
+  sender-puts (symbol.Frame k) m h = record {
+    figures = omega (arith, h, m, how-many-snoc Frames fwd (symbol.Frame k));
+    frames = put-on (symbol.Frame k) (put-counted _ _ _ _ _ (m .1) (h .frames));
+    rrdys = h .rrdys;
+    order = puts-next (b .taken) fwd _ _ (h .order);
+  }
+  sender-puts symbol.RRdy m h = record {
+    figures = omega (arith, h, how-many-snoc Frames fwd symbol.RRdy);
+    frames = put-on symbol.RRdy (put-other _ _ _ _ _ (h .frames));
+    rrdys = h .rrdys;
+    order = puts-next (b .taken) fwd _ _ (h .order);
+  }
+  sender-puts (symbol.Mark BbScS) m h = record {
+    figures = omega (arith, h, how-many-snoc Frames fwd (symbol.Mark BbScS));
+    frames = put-on (symbol.Mark BbScS) (put-mark _ _ _ _ _ m (h .frames));
+    rrdys = h .rrdys;
+    order = puts-next (b .taken) fwd _ _ (h .order);
+  }
+  sender-puts (symbol.Mark BbScR) m h = record {
+    figures = omega (arith, h, how-many-snoc Frames fwd (symbol.Mark BbScR));
+    frames = put-on (symbol.Mark BbScR) (put-other _ _ _ _ _ (h .frames));
+    rrdys = h .rrdys;
+    order = puts-next (b .taken) fwd _ _ (h .order);
+  }
 
-  put-back : (y : Symbol) {o : Outflow} → InStep (s .n) o (s .rrdys-in .got) (roles RRdys back ++ (role RRdys y ∷ [])) (a .rrdys .losses)
+  put-back : (y : Symbol) {o : Outflow}
+      → InStep (s .n) o (s .rrdys-in .got) (roles RRdys back ++ (role RRdys y ∷ [])) (a .rrdys .losses)
       → InStep (s .n) o (s .rrdys-in .got) (roles RRdys (back ++ (y ∷ []))) (a .rrdys .losses)
-  put-back y {o} h = subst (λ (z : List Role). InStep (s .n) o (s .rrdys-in .got) z (a .rrdys .losses)) (sym (roles-snoc RRdys back y)) h
+  put-back y {o} h =
+      subst (λ (z : List Role). InStep (s .n) o (s .rrdys-in .got) z (a .rrdys .losses))
+      (sym (roles-snoc RRdys back y)) h
 
-  pub receiver-puts : (y : Symbol) → MayPut r y → Loop s r fwd back a b → Loop s (has-sent r y) fwd (back ++ (y ∷ [])) a (noted b (event.Item Put at y))
-  receiver-puts (symbol.Frame k) m h = record { figures = omega (arith, h, how-many-snoc RRdys back (symbol.Frame k)); frames = h .frames; rrdys = put-back (symbol.Frame k) (put-other _ _ _ _ _ (h .rrdys)); order = h .order }
+  pub receiver-puts : (y : Symbol) → MayPut r y → Loop s r fwd back a b
+      → Loop s (has-sent r y) fwd (back ++ (y ∷ [])) a (noted b (event.Item Put at y))
+  receiver-puts (symbol.Frame k) m h = record {
+    figures = omega (arith, h, how-many-snoc RRdys back (symbol.Frame k));
+    frames = h .frames;
+    rrdys = put-back (symbol.Frame k) (put-other _ _ _ _ _ (h .rrdys));
+    order = h .order;
+  }
   receiver-puts symbol.RRdy m h = record {
     figures = omega (arith, h, m, how-many-snoc RRdys back symbol.RRdy);
     frames = h .frames;
-    rrdys = put-back symbol.RRdy (subst (λ (x : ℕ). InStep (s .n) (one-more (r .rrdys-out) x) (s .rrdys-in .got) (roles RRdys back ++ (counted ∷ [])) (a .rrdys .losses)) (h .figures .same-n) (put-counted _ _ _ _ _ (m .1) (h .rrdys)));
+    rrdys =
+        put-back symbol.RRdy
+        (subst
+        (λ (x : ℕ). InStep (s .n) (one-more (r .rrdys-out) x) (s .rrdys-in .got)
+        (roles RRdys back ++ (counted ∷ [])) (a .rrdys .losses)) (h .figures .same-n) (put-counted _ _ _ _ _
+        (m .1) (h .rrdys)));
     order = h .order;
   }
-  receiver-puts (symbol.Mark BbScS) m h = record { figures = omega (arith, h, how-many-snoc RRdys back (symbol.Mark BbScS)); frames = h .frames; rrdys = put-back (symbol.Mark BbScS) (put-other _ _ _ _ _ (h .rrdys)); order = h .order }
-  receiver-puts (symbol.Mark BbScR) m h = record { figures = omega (arith, h, how-many-snoc RRdys back (symbol.Mark BbScR)); frames = h .frames; rrdys = put-back (symbol.Mark BbScR) (put-mark _ _ _ _ _ m (h .rrdys)); order = h .order }
+  receiver-puts (symbol.Mark BbScS) m h = record {
+    figures = omega (arith, h, how-many-snoc RRdys back (symbol.Mark BbScS));
+    frames = h .frames;
+    rrdys = put-back (symbol.Mark BbScS) (put-other _ _ _ _ _ (h .rrdys));
+    order = h .order;
+  }
+  receiver-puts (symbol.Mark BbScR) m h = record {
+    figures = omega (arith, h, how-many-snoc RRdys back (symbol.Mark BbScR));
+    frames = h .frames;
+    rrdys = put-back (symbol.Mark BbScR) (put-mark _ _ _ _ _ m (h .rrdys));
+    order = h .order;
+  }
 
   -- a buffer freed
-  pub receiver-frees : (k : Frame) (ks : List Frame) → 0 < r .buffers .held → Loop s r fwd back a b → Loop s (with-buffers r (emptied (r .buffers) (k ∷ ks))) fwd back a (noted b (event.Frame Freed at k))
-  receiver-frees k ks m h = record { figures = omega (arith, h, m); frames = h .frames; rrdys = h .rrdys; order = h .order }
+  pub receiver-frees : (k : Frame) (ks : List Frame) → 0 < r .buffers .held → Loop s r fwd back a b
+      → Loop s (with-buffers r (emptied (r .buffers) (k ∷ ks))) fwd back a (noted b (event.Frame Freed at k))
+  receiver-frees k ks m h = record {
+    figures = omega (arith, h, m);
+    frames = h .frames;
+    rrdys = h .rrdys;
+    order = h .order;
+  }
 
 -- a port that takes a frame has a buffer for it
 abbrev pub HasRoom : Port → Symbol → Type 0
@@ -337,15 +494,18 @@ HasRoom r symbol.RRdy = Unit {0}
 HasRoom r (symbol.Mark BbScS) = Unit {0}
 HasRoom r (symbol.Mark BbScR) = Unit {0}
 
-pub room : (s r : Port) (fwd back : List Symbol) (a b : Account) (y : Symbol) → Loop s r (y ∷ fwd) back a b → HasRoom r y
+pub room : (s r : Port) (fwd back : List Symbol) (a b : Account) (y : Symbol) → Loop s r (y ∷ fwd) back a b
+    → HasRoom r y
 room s r fwd back a b (symbol.Frame k) h = ne-eqb _ _ (λ e. omega (arith, h))
 room s r fwd back a b symbol.RRdy h = tt
 room s r fwd back a b (symbol.Mark BbScS) h = tt
 room s r fwd back a b (symbol.Mark BbScR) h = tt
 
 -- by the records, a frame under way has a free buffer and an R_RDY under way a credit in use
-pub frame-room : (s r : Port) (k : Frame) (fwd back : List Symbol) (a b : Account) → Loop s r (symbol.Frame k ∷ fwd) back a b → buffers-in-use b < r .buffers .all
+pub frame-room : (s r : Port) (k : Frame) (fwd back : List Symbol) (a b : Account)
+    → Loop s r (symbol.Frame k ∷ fwd) back a b → buffers-in-use b < r .buffers .all
 frame-room s r k fwd back a b h = omega (arith, h)
 
-pub rrdy-room : (s r : Port) (fwd back : List Symbol) (a b : Account) → Loop s r fwd (symbol.RRdy ∷ back) a b → 0 < credit-used a
+pub rrdy-room : (s r : Port) (fwd back : List Symbol) (a b : Account) → Loop s r fwd (symbol.RRdy ∷ back) a b
+    → 0 < credit-used a
 rrdy-room s r fwd back a b h = omega (arith, h)

@@ -97,8 +97,18 @@ module _ {B : Type 0} (M : BankCalls B) where
       let before = each-small most f small c k in
       let now′ = small d k in
       record {
-        bytes = omega (arith, total-append size (each-port f k c .events) (f d k .events), before .bytes, now′ .bytes, suc-mul k most);
-        no-tick = omega (arith, total-append tick-in (each-port f k c .events) (f d k .events), before .no-tick, now′ .no-tick);
+        bytes =
+            omega (
+              arith,
+              total-append size (each-port f k c .events)
+                  (f d k .events),
+              before .bytes,
+              now′ .bytes,
+              suc-mul k most,
+            );
+        no-tick =
+            omega
+            (arith, total-append tick-in (each-port f k c .events) (f d k .events), before .no-tick, now′ .no-tick);
       }
 
   module _ (c : Chain B) where
@@ -109,16 +119,31 @@ module _ {B : Type 0} (M : BankCalls B) where
     after-takes = each-port (takes M) (2 * c .links) after-tick .state
 
     parts : (f : Event → ℕ) → total f (stepped M c .events)
-        ≡ f (event.Tick (c .tick + 1)) + total f (each-port (takes M) (2 * c .links) after-tick .events) + total f (each-port (sends M) (2 * c .links) after-takes .events)
+        ≡ f (event.Tick (c .tick + 1)) + total f (each-port (takes M) (2 * c .links) after-tick .events) + total f
+        (each-port (sends M) (2 * c .links) after-takes .events)
     parts f =
-        total-append f (event.Tick (c .tick + 1) ∷ each-port (takes M) (2 * c .links) after-tick .events) (each-port (sends M) (2 * c .links) after-takes .events)
+        total-append f (event.Tick (c .tick + 1) ∷ each-port (takes M) (2 * c .links) after-tick .events)
+        (each-port (sends M) (2 * c .links) after-takes .events)
 
     -- a step writes no more bytes than it asks for
     pub step-fits : length (encode-all (stepped M c .events)) ≤ step-bytes (c .links)
     step-fits =
-        omega (arith, bytes-are (stepped M c .events), parts size, each-small 10 (takes M) takes-small after-tick (2 * c .links) .bytes, each-small 15 (sends M) sends-small after-takes (2 * c .links) .bytes)
+        omega (
+          arith,
+          bytes-are (stepped M c .events),
+          parts size,
+          each-small 10 (takes M) takes-small after-tick
+              (2 * c .links) .bytes,
+          each-small 15 (sends M) sends-small after-takes (2 * c .links) .bytes,
+        )
 
     -- and one tick
     pub step-ticks : ticks (stepped M c .events) ≡ 1
     step-ticks =
-        omega (arith, parts tick-in, each-small 10 (takes M) takes-small after-tick (2 * c .links) .no-tick, each-small 15 (sends M) sends-small after-takes (2 * c .links) .no-tick)
+        omega (
+          arith,
+          parts tick-in,
+          each-small 10 (takes M) takes-small after-tick
+              (2 * c .links) .no-tick,
+          each-small 15 (sends M) sends-small after-takes (2 * c .links) .no-tick,
+        )

@@ -21,7 +21,8 @@ use Rattle.model.specs.declared.End.{End}
 use Rattle.model.specs.declared.End.the-variants.{West, East}
 use Rattle.model.specs.Chain.{Chain, behind, port-of, end-port}
 use Rattle.model.specs.Chain.{on, opposite}
-use Rattle.model.specs.OnePlace.{up-to, times, InOrderOf, nothing, left-out, next, over-links, hop, taker, at-hop, places}
+use Rattle.model.specs.OnePlace.{up-to, times, InOrderOf, nothing, left-out, next, over-links, hop, taker, at-hop}
+use Rattle.model.specs.OnePlace.{places}
 use Rattle.model.proofs.Places.{facing-is, behind-is}
 use Rattle.model.proofs.Kept.{Invariant}
 use Rattle.symbol.specs.declared.Symbol.the-variants as symbol
@@ -67,32 +68,73 @@ pub record Taken (a : Account) : Type 0 where
   pub each : (k : ℕ) → times k (frames-among (a .taken)) ≡ times k (a .got) + times k (a .lost)
   pub in-order : InOrderOf (a .got) (frames-among (a .taken))
 
-taken-other : (a : Account) (y : Symbol) → frames-among (y ∷ []) ≡ [] → frames-among (a .taken ++ (y ∷ [])) ≡ frames-among (a .taken)
-taken-other a y e = frames-append (a .taken) (y ∷ []) ∙ ap {B = List Frame} (λ z. frames-among (a .taken) ++ z) e ∙ append-nil (frames-among (a .taken))
+taken-other : (a : Account) (y : Symbol) → frames-among (y ∷ []) ≡ []
+    → frames-among (a .taken ++ (y ∷ [])) ≡ frames-among (a .taken)
+taken-other a y e = frames-append (a .taken) (y ∷ []) ∙ ap {B = List Frame} (λ z. frames-among (a .taken) ++ z) e
+    ∙ append-nil (frames-among (a .taken))
 
-no-frame : (a : Account) (y : Symbol) → frames-among (y ∷ []) ≡ [] → Taken a → (k : ℕ) → times k (frames-among (a .taken ++ (y ∷ []))) ≡ times k (a .got) + times k (a .lost)
+no-frame : (a : Account) (y : Symbol) → frames-among (y ∷ []) ≡ [] → Taken a → (k : ℕ)
+    → times k (frames-among (a .taken ++ (y ∷ []))) ≡ times k (a .got) + times k (a .lost)
 no-frame a y e h k = ap (times k) (taken-other a y e) ∙ h .each k
 
-no-frame-order : (a : Account) (y : Symbol) → frames-among (y ∷ []) ≡ [] → Taken a → InOrderOf (a .got) (frames-among (a .taken ++ (y ∷ [])))
+no-frame-order : (a : Account) (y : Symbol) → frames-among (y ∷ []) ≡ [] → Taken a
+    → InOrderOf (a .got) (frames-among (a .taken ++ (y ∷ [])))
 no-frame-order a y e h = subst (InOrderOf (a .got)) (sym (taken-other a y e)) (h .in-order)
 
 taken-kept : (a : Account) (e : Event) → Taken a → Taken (noted a e)
 taken-kept a (event.Tick t) h = h
 taken-kept a (event.Item Put q s) h = record { each = h .each; in-order = h .in-order }
 taken-kept a (event.Item Got q (symbol.Frame j)) h = record {
-  each = λ k. omega (arith, ap (times k) (frames-append (a .taken) (symbol.Frame j ∷ [])), times-append k (frames-among (a .taken)) (j ∷ []), times-append k (a .got) (j ∷ []), h .each k);
-  in-order = subst (InOrderOf (a .got ++ (j ∷ []))) (sym (frames-append (a .taken) (symbol.Frame j ∷ []))) (in-order-both j (h .in-order));
+  each =
+      λ k. omega (
+        arith,
+        ap (times k) (frames-append (a .taken) (symbol.Frame j ∷ [])),
+        times-append k
+            (frames-among (a .taken)) (j ∷ []),
+        times-append k (a .got) (j ∷ []),
+        h .each k,
+      );
+  in-order =
+      subst (InOrderOf (a .got ++ (j ∷ []))) (sym (frames-append (a .taken) (symbol.Frame j ∷ [])))
+      (in-order-both j (h .in-order));
 }
-taken-kept a (event.Item Got q symbol.RRdy) h = record { each = no-frame a symbol.RRdy refl h; in-order = no-frame-order a symbol.RRdy refl h }
-taken-kept a (event.Item Got q (symbol.Mark BbScS)) h = record { each = no-frame a (symbol.Mark BbScS) refl h; in-order = no-frame-order a (symbol.Mark BbScS) refl h }
-taken-kept a (event.Item Got q (symbol.Mark BbScR)) h = record { each = no-frame a (symbol.Mark BbScR) refl h; in-order = no-frame-order a (symbol.Mark BbScR) refl h }
+taken-kept a (event.Item Got q symbol.RRdy) h = record {
+  each = no-frame a symbol.RRdy refl h;
+  in-order = no-frame-order a symbol.RRdy refl h;
+}
+taken-kept a (event.Item Got q (symbol.Mark BbScS)) h = record {
+  each = no-frame a (symbol.Mark BbScS) refl h;
+  in-order = no-frame-order a (symbol.Mark BbScS) refl h;
+}
+taken-kept a (event.Item Got q (symbol.Mark BbScR)) h = record {
+  each = no-frame a (symbol.Mark BbScR) refl h;
+  in-order = no-frame-order a (symbol.Mark BbScR) refl h;
+}
 taken-kept a (event.Item Missed q (symbol.Frame j)) h = record {
-  each = λ k. omega (arith, ap (times k) (frames-append (a .taken) (symbol.Frame j ∷ [])), times-append k (frames-among (a .taken)) (j ∷ []), times-append k (a .lost) (j ∷ []), h .each k);
-  in-order = subst (InOrderOf (a .got)) (sym (frames-append (a .taken) (symbol.Frame j ∷ []))) (in-order-more j (h .in-order));
+  each =
+      λ k. omega (
+        arith,
+        ap (times k) (frames-append (a .taken) (symbol.Frame j ∷ [])),
+        times-append k
+            (frames-among (a .taken)) (j ∷ []),
+        times-append k (a .lost) (j ∷ []),
+        h .each k,
+      );
+  in-order =
+      subst (InOrderOf (a .got)) (sym (frames-append (a .taken) (symbol.Frame j ∷ []))) (in-order-more j (h .in-order));
 }
-taken-kept a (event.Item Missed q symbol.RRdy) h = record { each = no-frame a symbol.RRdy refl h; in-order = no-frame-order a symbol.RRdy refl h }
-taken-kept a (event.Item Missed q (symbol.Mark BbScS)) h = record { each = no-frame a (symbol.Mark BbScS) refl h; in-order = no-frame-order a (symbol.Mark BbScS) refl h }
-taken-kept a (event.Item Missed q (symbol.Mark BbScR)) h = record { each = no-frame a (symbol.Mark BbScR) refl h; in-order = no-frame-order a (symbol.Mark BbScR) refl h }
+taken-kept a (event.Item Missed q symbol.RRdy) h = record {
+  each = no-frame a symbol.RRdy refl h;
+  in-order = no-frame-order a symbol.RRdy refl h;
+}
+taken-kept a (event.Item Missed q (symbol.Mark BbScS)) h = record {
+  each = no-frame a (symbol.Mark BbScS) refl h;
+  in-order = no-frame-order a (symbol.Mark BbScS) refl h;
+}
+taken-kept a (event.Item Missed q (symbol.Mark BbScR)) h = record {
+  each = no-frame a (symbol.Mark BbScR) refl h;
+  in-order = no-frame-order a (symbol.Mark BbScR) refl h;
+}
 taken-kept a (event.Frame Freed q k) h = record { each = h .each; in-order = h .in-order }
 taken-kept a (event.MadeGood q BbScS k) h = record { each = h .each; in-order = h .in-order }
 taken-kept a (event.MadeGood q BbScR k) h = record { each = h .each; in-order = h .in-order }
@@ -122,7 +164,14 @@ how-often-append k (x ∷ xs) ys = omega (arith, how-often-append k xs ys)
 -- each number from 1 to n is once among them
 pub up-to-out : (n k : ℕ) → (k ≡ 0) ⊎ (n < k) → how-often k (up-to n) ≡ 0
 up-to-out zero k h = refl
-up-to-out (suc n) k h = omega (arith, how-often-append k (up-to n) (suc n ∷ []), up-to-out n k (less h), ap {B = ℕ} (λ (t : Bool). cond t 1 0) (ne-eqb k (suc n) (λ e. omega (arith, h))))
+up-to-out (suc n) k h =
+    omega (
+      arith,
+      how-often-append k (up-to n) (suc n ∷ []),
+      up-to-out n k (less h),
+      ap {B = ℕ}
+          (λ (t : Bool). cond t 1 0) (ne-eqb k (suc n) (λ e. omega (arith, h))),
+    )
   where
     less : (k ≡ 0) ⊎ (suc n < k) → (k ≡ 0) ⊎ (n < k)
     less (inl e) = inl e
@@ -133,8 +182,22 @@ up-to-in zero k h e = absurd (omega arith)
 up-to-in (suc n) k h e = go (cases-eq k (suc n)) (λ z. up-to-in n k h z)
   where
     go : (k ≡ suc n) ⊎ (k ≡ suc n → ⊥) → (k ≤ n → how-often k (up-to n) ≡ 1) → how-often k (up-to n ++ (suc n ∷ [])) ≡ 1
-    go (inl q) r = omega (arith, how-often-append k (up-to n) (suc n ∷ []), up-to-out n k (inr (omega arith)), ap {B = ℕ} (λ (t : Bool). cond t 1 0) (eq-eqb k (suc n) q))
-    go (inr q) r = omega (arith, how-often-append k (up-to n) (suc n ∷ []), r (let m : k ≢ suc n = q in omega arith), ap {B = ℕ} (λ (t : Bool). cond t 1 0) (ne-eqb k (suc n) q))
+    go (inl q) r =
+        omega (
+          arith,
+          how-often-append k (up-to n) (suc n ∷ []),
+          up-to-out n k (inr (omega arith)),
+          ap {B = ℕ}
+              (λ (t : Bool). cond t 1 0) (eq-eqb k (suc n) q),
+        )
+    go (inr q) r =
+        omega (
+          arith,
+          how-often-append k (up-to n) (suc n ∷ []),
+          r (let m : k ≢ suc n = q in omega arith),
+          ap {B = ℕ}
+              (λ (t : Bool). cond t 1 0) (ne-eqb k (suc n) q),
+        )
 
 module _ {B : Type 0} (M : BankCalls B) (c : Chain B) where
   hop-first : (e : End) → hop c e 0 ≡ end-port c e
@@ -159,52 +222,116 @@ module _ {B : Type 0} (M : BankCalls B) (c : Chain B) where
 
   module _ (l : Log) (h : Invariant M c l) (some : 0 < c .links) (e : End) where
     -- what was put on the i-th direction is taken or on it
-    put-is : (i : ℕ) → i < c .links → frames-among (account (hop c e i) l .puts) ≡ frames-among (account (taker c e i) l .taken) ++ frames-among (on M c (hop c e i))
-    put-is i lt = ap frames-among (h .loops (hop c e i) (taker c e i) (hop-below e i lt) refl .order) ∙ frames-append (account (taker c e i) l .taken) (on M c (hop c e i))
+    put-is : (i : ℕ) → i < c .links
+        → frames-among (account (hop c e i) l .puts)
+        ≡ frames-among (account (taker c e i) l .taken) ++ frames-among (on M c (hop c e i))
+    put-is i lt = ap frames-among (h .loops (hop c e i) (taker c e i) (hop-below e i lt) refl .order)
+        ∙ frames-append (account (taker c e i) l .taken) (on M c (hop c e i))
 
     put-times : (i k : ℕ) → i < c .links → times k (frames-among (account (hop c e i) l .puts))
-        ≡ times k (account (taker c e i) l .got) + times k (lost-frames (taker c e i) l) + times k (frames-among (on M c (hop c e i)))
-    put-times i k lt = omega (arith, ap (times k) (put-is i lt), times-append k (frames-among (account (taker c e i) l .taken)) (frames-among (on M c (hop c e i))), taken-of (taker c e i) l .each k, ap (times k) (told (taker c e i) l .lost-are))
+        ≡ times k (account (taker c e i) l .got) + times k (lost-frames (taker c e i) l) + times k
+        (frames-among (on M c (hop c e i)))
+    put-times i k lt =
+        omega (
+          arith,
+          ap (times k) (put-is i lt),
+          times-append k (frames-among (account (taker c e i) l .taken))
+              (frames-among (on M c (hop c e i))),
+          taken-of (taker c e i) l .each k,
+          ap (times k)
+              (told (taker c e i) l .lost-are),
+        )
 
     -- the first direction is fed by the outbox, each other by the port before it
-    first-is : injected (end-port c e) l ≡ frames-among (account (hop c e 0) l .puts) ++ port-of c (end-port c e) .outbox .frames
-    first-is = sym (told (end-port c e) l .injected-are) ∙ h .fed e some ∙ ap {B = List Frame} (λ p. frames-among (account p l .puts) ++ port-of c (end-port c e) .outbox .frames) (sym (hop-first e))
+    first-is : injected (end-port c e) l
+        ≡ frames-among (account (hop c e 0) l .puts) ++ port-of c (end-port c e) .outbox .frames
+    first-is = sym (told (end-port c e) l .injected-are) ∙ h .fed e some
+        ∙ ap {B = List Frame} (λ p. frames-among (account p l .puts) ++ port-of c (end-port c e) .outbox .frames)
+        (sym (hop-first e))
 
-    next-is : (i : ℕ) → suc i < c .links → account (taker c e i) l .got ≡ frames-among (account (hop c e (suc i)) l .puts) ++ port-of c (taker c e i) .buffers .waiting
-    next-is i lt = h .passed-on (hop c e (suc i)) (taker c e i) (hop-below e (suc i) lt) (hop-inner e i lt .0) (hop-inner e i lt .1) (hop-next e i lt)
+    next-is : (i : ℕ) → suc i < c .links
+        → account (taker c e i) l .got
+        ≡ frames-among (account (hop c e (suc i)) l .puts) ++ port-of c (taker c e i) .buffers .waiting
+    next-is i lt =
+        h .passed-on (hop c e (suc i)) (taker c e i) (hop-below e (suc i) lt) (hop-inner e i lt .0)
+        (hop-inner e i lt .1) (hop-next e i lt)
 
-    last-is : (i : ℕ) → suc i ≡ c .links → account (taker c e i) l .got ≡ collected (end-port c (opposite e)) l ++ port-of c (taker c e i) .buffers .waiting
-    last-is i z = subst (λ (p : ℕ). account p l .got ≡ collected (end-port c (opposite e)) l ++ port-of c p .buffers .waiting) (sym (hop-last e i z)) (h .handed (opposite e) some ∙ ap {B = List Frame} (λ fs. fs ++ port-of c (end-port c (opposite e)) .buffers .waiting) (told (end-port c (opposite e)) l .collected-are))
+    last-is : (i : ℕ) → suc i ≡ c .links
+        → account (taker c e i) l .got
+        ≡ collected (end-port c (opposite e)) l ++ port-of c (taker c e i) .buffers .waiting
+    last-is i z =
+        subst (λ (p : ℕ). account p l .got ≡ collected (end-port c (opposite e)) l ++ port-of c p .buffers .waiting)
+        (sym (hop-last e i z))
+        (h .handed (opposite e) some
+        ∙ ap {B = List Frame} (λ fs. fs ++ port-of c (end-port c (opposite e)) .buffers .waiting)
+        (told (end-port c (opposite e)) l .collected-are))
 
     -- where the injected frames are, as far as the i-th direction
     reach : (i : ℕ) → i < c .links → (k : ℕ) → times k (injected (end-port c e) l)
         ≡ times k (port-of c (end-port c e) .outbox .frames) + over-links (at-hop M c l e k) i
-        + times k (frames-among (on M c (hop c e i))) + times k (lost-frames (taker c e i) l) + times k (account (taker c e i) l .got)
-    reach zero lt k = omega (arith, ap (times k) first-is, times-append k (frames-among (account (hop c e 0) l .puts)) (port-of c (end-port c e) .outbox .frames), put-times 0 k lt)
-    reach (suc i) lt k = omega (arith, reach i (omega arith) k, ap (times k) (next-is i lt), times-append k (frames-among (account (hop c e (suc i)) l .puts)) (port-of c (taker c e i) .buffers .waiting), put-times (suc i) k lt)
+        + times k (frames-among (on M c (hop c e i))) + times k (lost-frames (taker c e i) l) + times k
+        (account (taker c e i) l .got)
+    reach zero lt k =
+        omega (
+          arith,
+          ap (times k) first-is,
+          times-append k (frames-among (account (hop c e 0) l .puts))
+              (port-of c (end-port c e) .outbox .frames),
+          put-times 0 k lt,
+        )
+    reach (suc i) lt k =
+        omega (
+          arith,
+          reach i (omega arith) k,
+          ap (times k) (next-is i lt),
+          times-append k
+              (frames-among (account (hop c e (suc i)) l .puts)) (port-of c (taker c e i) .buffers .waiting),
+          put-times
+              (suc i) k lt,
+        )
 
     pub places-are : (k : ℕ) → places M c l e k ≡ times k (injected (end-port c e) l)
     places-are k = go (c .links) refl
       where
         go : (n : ℕ) → c .links ≡ n → places M c l e k ≡ times k (injected (end-port c e) l)
         go zero z = absurd (omega arith)
-        go (suc i) z = ap (λ (n : ℕ). times k (port-of c (end-port c e) .outbox .frames) + over-links (at-hop M c l e k) n + times k (collected (end-port c (opposite e)) l)) z
-            ∙ omega (arith, reach i (omega arith) k, ap (times k) (last-is i (sym z)), times-append k (collected (end-port c (opposite e)) l) (port-of c (taker c e i) .buffers .waiting))
+        go (suc i) z =
+            ap (λ (n : ℕ). times k (port-of c (end-port c e) .outbox .frames) + over-links
+            (at-hop M c l e k) n + times k (collected (end-port c (opposite e)) l)) z
+            ∙ omega (
+              arith,
+              reach i (omega arith) k,
+              ap (times k) (last-is i (sym z)),
+              times-append k
+                  (collected (end-port c (opposite e)) l) (port-of c (taker c e i) .buffers .waiting),
+            )
 
     front-of : (xs ys zs : List Frame) → zs ≡ xs ++ ys → InOrderOf xs zs
     front-of xs ys zs q = subst (InOrderOf xs) (sym q) (in-order-front xs ys)
 
-    arrives : (i : ℕ) → i < c .links → InOrderOf (account (taker c e i) l .got) (frames-among (account (hop c e i) l .puts))
-    arrives i lt = in-order-trans (taken-of (taker c e i) l .in-order) (front-of (frames-among (account (taker c e i) l .taken)) (frames-among (on M c (hop c e i))) (frames-among (account (hop c e i) l .puts)) (put-is i lt))
+    arrives : (i : ℕ) → i < c .links
+        → InOrderOf (account (taker c e i) l .got) (frames-among (account (hop c e i) l .puts))
+    arrives i lt =
+        in-order-trans (taken-of (taker c e i) l .in-order)
+        (front-of (frames-among (account (taker c e i) l .taken)) (frames-among (on M c (hop c e i)))
+        (frames-among (account (hop c e i) l .puts)) (put-is i lt))
 
     keeps-order : (i : ℕ) → i < c .links → InOrderOf (account (taker c e i) l .got) (injected (end-port c e) l)
-    keeps-order zero lt = in-order-trans (arrives 0 lt) (front-of (frames-among (account (hop c e 0) l .puts)) (port-of c (end-port c e) .outbox .frames) (injected (end-port c e) l) first-is)
+    keeps-order zero lt =
+        in-order-trans (arrives 0 lt)
+        (front-of (frames-among (account (hop c e 0) l .puts)) (port-of c (end-port c e) .outbox .frames)
+        (injected (end-port c e) l) first-is)
     keeps-order (suc i) lt = in-order-trans (arrives (suc i) lt)
-        (in-order-trans (front-of (frames-among (account (hop c e (suc i)) l .puts)) (port-of c (taker c e i) .buffers .waiting) (account (taker c e i) l .got) (next-is i lt)) (keeps-order i (omega arith)))
+        (in-order-trans
+        (front-of (frames-among (account (hop c e (suc i)) l .puts)) (port-of c (taker c e i) .buffers .waiting)
+        (account (taker c e i) l .got) (next-is i lt)) (keeps-order i (omega arith)))
 
     pub collected-in-order : InOrderOf (collected (end-port c (opposite e)) l) (injected (end-port c e) l)
     collected-in-order = go (c .links) refl
       where
         go : (n : ℕ) → c .links ≡ n → InOrderOf (collected (end-port c (opposite e)) l) (injected (end-port c e) l)
         go zero z = absurd (omega arith)
-        go (suc i) z = in-order-trans (front-of (collected (end-port c (opposite e)) l) (port-of c (taker c e i) .buffers .waiting) (account (taker c e i) l .got) (last-is i (sym z))) (keeps-order i (omega arith))
+        go (suc i) z =
+            in-order-trans
+            (front-of (collected (end-port c (opposite e)) l) (port-of c (taker c e i) .buffers .waiting)
+            (account (taker c e i) l .got) (last-is i (sym z))) (keeps-order i (omega arith))
