@@ -25,6 +25,7 @@ use Rattle.bank.specs.Bank.{BankCalls}
 use Rattle.model.specs.Port.{Turn, receive-events, correction, after-send}
 use Rattle.model.specs.Chain.{Chain, facing, behind, port-of, with-port, with-bank, is-end, freed-events, each-port}
 use Rattle.model.specs.Chain.{takes-item, takes, sent, sends-symbol, sends, ticked, stepped, step-bytes}
+use Rattle.model.specs.Sizes.{CallsFit}
 use Rattle.model.specs.Run.{Log}
 use Rattle.model.specs.Figures.{total, tick-in, ticks}
 
@@ -147,3 +148,11 @@ module _ {B : Type 0} (M : BankCalls B) where
               (2 * c .links) .no-tick,
           each-small 15 (sends M) sends-small after-takes (2 * c .links) .no-tick,
         )
+
+  pub calls-fit : CallsFit M
+  calls-fit = record {
+    step-fits = step-fits;
+    inject-fits = λ c e. refl;
+    collect-fits = λ c e f. refl;
+    release-fits = λ c e k. refl;
+  }

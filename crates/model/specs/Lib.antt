@@ -9,4 +9,5 @@ pub mod WholeParts
 pub mod OnePlace
 pub mod RecordsTell
 pub mod Laws
+pub mod Sizes
 pub mod Worked

@@ -1,6 +1,7 @@
 // What holds of every run, and of some runs that were worked out, on the contracts of functions that anybody can call.
 
 ghost use Rattle.model.specs.Laws.{EveryRun};
+ghost use Rattle.model.specs.Sizes.{CallsFit};
 ghost use Rattle.model.specs.Worked.{LossTable, SixSteps, SixteenMissing, ThreeMadeGood};
 use bank::Bank;
 
@@ -9,6 +10,12 @@ use bank::Bank;
 pub fn laws_of_every_run<B: Bank>(bank: &B)
     ensures { λ _. ⌜ EveryRun (B·Bank .calls) (B·Bank .model (now (bank .entry))) ⌝ }
 {}
+
+// An accepted call writes no more bytes than it asks for.
+pub fn calls_fit<B: Bank>(_bank: &B)
+    ensures { λ _. ⌜ CallsFit (B·Bank .calls) ⌝ }
+{
+}
 
 // A lost frame that is made good, by its page and its records; three of sixteen lost on the middle of three links,
 // and made good; sixteen lost between two marks, and missing for good.
