@@ -127,7 +127,7 @@ own-change P Q g change stay (x ∷ xs) (suc p) zero h = stay x h
 own-change P Q g change stay (x ∷ xs) (suc p) (suc q) h = own-change P Q g change stay xs p q h
 
 -- a table with one port set
-at-port : (P : Port → Type 0) (ps : List Port) (p q : ℕ) (s : Port) → P s → P (getD ps q new-port)
+pub at-port : (P : Port → Type 0) (ps : List Port) (p q : ℕ) (s : Port) → P s → P (getD ps q new-port)
     → P (getD (set ps p s) q new-port)
 at-port P [] p q s h k = k
 at-port P (x ∷ xs) zero zero s h k = h

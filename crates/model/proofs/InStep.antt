@@ -11,7 +11,8 @@ use Rattle.std.proofs.shelf.Tests.{and-parts, eqb-true}
 use Rattle.model.specs.Port.{Outflow, lost-of}
 use Rattle.model.specs.Figures.{Role, counted, mark, other, one-counted, counted-in}
 use Rattle.model.specs.Stretches.{Arrived, WasLost, lost-among, lost-in, good-among}
-use Rattle.model.specs.WholeParts.{Each, WholePart}
+use Rattle.std.specs.shelf.Lists.{All}
+use Rattle.model.specs.WholeParts.{WholePart}
 use Rattle.model.proofs.Accounts.{Losses}
 
 -- the losses of the open stretch
@@ -20,7 +21,7 @@ open-lost x = lost-among (x .cut .still-open)
 
 -- each ended stretch has left a whole part, every loss is in one or in the open one, and all made good is in one
 pub record Wholes (n : ℕ) (x : Losses) : Type 0 where
-  pub each : Each (WholePart n) (x .cut .ended)
+  pub each : All (WholePart n) (x .cut .ended)
   pub all-lost : x .lost ≡ open-lost x + lost-in (x .cut .ended)
   pub all-good : x .good ≡ good-among (x .cut .ended)
 

@@ -11,6 +11,7 @@ use Rattle.symbol.specs.declared.Symbol.{Symbol}
 use Rattle.symbol.specs.declared.Symbol.the-variants as symbol
 use Rattle.log.specs.declared.event.Event.the-variants as event
 use Rattle.log.specs.declared.event.ItemKind.the-variants.{Got}
+use Rattle.reader.specs.Reading.{WellFormed}
 use Rattle.bank.specs.Bank.{BankCalls, LawfulBank}
 use Rattle.model.specs.declared.End.{End}
 use Rattle.model.specs.Port.{Turn, no-act}
@@ -21,7 +22,8 @@ use Rattle.model.specs.Run.{login, start, inject, step, collect, release, drai
 use Rattle.model.specs.Figures.{Stream, Frames, RRdys, reported-lost, made-good, puts, injected, collected, ticks}
 use Rattle.model.specs.Stretches.{taken, taken-symbols, stretches, cut, nothing-put, lost-in, good-among}
 use Rattle.model.specs.CreditSum.{SumOfSix, CreditSum}
-use Rattle.model.specs.WholeParts.{Each, WholePart, InParts, WholeParts}
+use Rattle.std.specs.shelf.Lists.{All}
+use Rattle.model.specs.WholeParts.{WholePart, InParts, WholeParts}
 use Rattle.model.specs.OnePlace.{numbers, up-to, over-links, hop, taker, places, OfOneEnd, OnePlace}
 use Rattle.model.specs.RecordsTell.{PortTold, WayTold, PortInBounds, InBounds, RecordsTell}
 use Rattle.model.specs.Laws.{Holds, EveryRun, Continues}
@@ -34,7 +36,7 @@ use Rattle.model.proofs.Cuts.{SameLosses, put-stretches}
 use Rattle.model.proofs.Places.{facing-back, facing-below, end-below}
 use Rattle.model.proofs.Kept.{Invariant}
 use Rattle.model.proofs.Bounds.{Bounded}
-use Rattle.model.proofs.Runs.{run-invariant, run-bounded, run-ticks}
+use Rattle.model.proofs.Runs.{run-invariant, run-bounded, run-ticks, run-fine}
 use Rattle.model.proofs.Ways.{times-often, up-to-in, up-to-out, how-often, places-are, collected-in-order, hop-below}
 
 -- a figure that has not come to the largest is exact
@@ -59,7 +61,8 @@ links-same f g zero h = refl
 links-same f g (suc n) h = omega (arith, links-same f g n (λ i z. h i (omega arith)), h n (omega arith))
 
 module _ {B : Type 0} (M : BankCalls B) (law : (b : B) → LawfulBank M b) where
-  module _ (c : Chain B) (l : Log) (h : Invariant M c l) (few : Bounded c) (timed : c .tick ≡ ticks l) where
+  module _ (c : Chain B) (l : Log) (h : Invariant M c l) (few : Bounded c) (timed : c .tick ≡ ticks l)
+      (well : All WellFormed l) where
     -- the loop in which port p sends frames, and the one in which it takes them
     sends-in : (p : ℕ) → p < 2 * c .links
         → Loop (port-of c p) (port-of c (facing p)) (on M c p) (on M c (facing p)) (account p l) (account (facing p) l)
@@ -127,7 +130,7 @@ module _ {B : Type 0} (M : BankCalls B) (law : (b : B) → LawfulBank M b) where
         → x .good ≡ made-good k (facing p) l
         → SameLosses (x .cut) (stretches k p l) → InParts (port-of c p .n) k p l
     wholes p k x w lost good same = record {
-      each = subst (Each (WholePart (port-of c p .n))) (sym (same .ended)) (w .each);
+      each = subst (All (WholePart (port-of c p .n))) (sym (same .ended)) (w .each);
       all-lost = sym lost ∙ w .all-lost ∙ (λ i. sym (same .lost) i + lost-in (sym (same .ended) i));
       all-good = sym good ∙ w .all-good ∙ ap good-among (sym (same .ended));
     }
@@ -261,11 +264,13 @@ module _ {B : Type 0} (M : BankCalls B) (law : (b : B) → LawfulBank M b) where
         ways = way-told;
         tick = timed;
         in-bounds = record { links = few .links; tick = few .tick; ports = in-bounds };
+        well-formed = well;
       };
     }
 
   pub every-run : (b : B) → EveryRun M b
-  every-run b ph c l r = holds c l (run-invariant M law b ph c l r) (run-bounded M law r) (run-ticks M law r)
+  every-run b ph c l r =
+      holds c l (run-invariant M law b ph c l r) (run-bounded M law r) (run-ticks M law r) (run-fine M law r .log)
 
   -- each call continues every run: from c to c′ by turn t
   onward : (ph ph′ : Phase) (c c′ : Chain B) (t : Turn (Chain B)) → c′ ≡ t .state

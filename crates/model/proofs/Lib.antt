@@ -12,6 +12,7 @@ pub mod Kept
 pub mod Calls
 pub mod Bounds
 pub mod Sizes
+pub mod Readable
 pub mod Runs
 pub mod Ways
 pub mod Laws

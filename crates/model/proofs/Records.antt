@@ -15,7 +15,7 @@ use Rattle.model.proofs.Accounts.{Account, noted, noted-all, account, no-accou
 use Rattle.model.specs.Port.{Port, frames-found, rrdys-found}
 use Rattle.model.proofs.Loop.{taken-events}
 use Rattle.symbol.specs.declared.Frame.{Frame}
-use Rattle.model.specs.WholeParts.{Each}
+use Rattle.std.specs.shelf.Lists.{All}
 use Rattle.symbol.specs.declared.Symbol.the-variants as symbol
 use Rattle.symbol.specs.declared.Mark.{Mark as MarkIs}
 use Rattle.symbol.specs.declared.Mark.the-variants.{BbScS, BbScR}
@@ -38,7 +38,7 @@ account-append p l es = ap (noted-all no-account) (of-port-append p l es)
 
 -- records that are all the port's, and records of which none is
 abbrev pub At : ℕ → Bool → Log → Type 0
-At p t es = Each (λ (e : Event). is-at p e ≡ t) es
+At p t es = All (λ (e : Event). is-at p e ≡ t) es
 
 of-port-own : (p : ℕ) (es : Log) → At p true es → records p es ≡ es
 of-port-own p [] h = refl
@@ -121,7 +121,8 @@ same-parts a a′ e = record {
 module _ (p x z : ℕ) (f : Frame) (l : Log) where
   put-freed : (a : Account) (t u : Bool)
       → SameFrames a
-      (noted-all a (cond t (event.Item Put x (symbol.Frame f) ∷ []) [] ++ (cond u (event.Frame Freed z f ∷ []) [] ++ [])))
+      (noted-all a
+      (cond t (event.Item Put x (symbol.Frame f) ∷ []) [] ++ (cond u (event.Frame Freed z f ∷ []) [] ++ [])))
   put-freed a true true = same-parts _ _ refl
   put-freed a true false = same-parts _ _ refl
   put-freed a false true = same-parts _ _ refl

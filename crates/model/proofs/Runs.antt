@@ -17,6 +17,7 @@ use Rattle.std.proofs.shelf.Tests.{false≢true, eqb-true, eqb-false, cases-eq,
 use Rattle.std.proofs.shelf.Tests.{or-parts, ltb-false}
 use Rattle.ring.specs.Queue.{head?, tail, empty}
 use Rattle.model.specs.declared.End.{End}
+use Rattle.model.specs.declared.End.the-variants.{West, East}
 use Rattle.symbol.specs.declared.Item.{Item}
 use Rattle.model.specs.declared.Refusal.{Refusal}
 use Rattle.model.specs.declared.Refusal.the-variants as refusal
@@ -27,6 +28,11 @@ use Rattle.model.specs.Chain.{injected, call-bytes, last-tick}
 use Rattle.model.specs.Run.{new, login, start, inject, step, collect, release, drain}
 use Rattle.model.specs.Figures.{ticks, tick-in}
 use Rattle.model.proofs.Records.{AllMeetRoom}
+use Rattle.log.specs.declared.event.FrameKind.{FrameKind}
+use Rattle.model.specs.Port.{next-frame}
+use Rattle.model.proofs.Readable.{FineNumber, FineSymbols, FinePort, FineOldest, Fine, FineTurn, FineRun, fresh-fine}
+use Rattle.model.proofs.Readable.{well-frame, fine-port, fine-more, oldest-fine, handed-out-fine, released-fine}
+use Rattle.model.proofs.Readable.{next-fine, injected-fine, number-found, step-fine}
 use Rattle.model.proofs.Sizes.{total-append, step-ticks}
 use Rattle.model.proofs.Bounds.{stepped-tick}
 use Rattle.model.specs.Run.{Log}
@@ -46,7 +52,7 @@ use Rattle.model.proofs.Kept.{Loops, loop-same, Stocked, Invariant, Kept}
 use Rattle.model.proofs.Calls.{step-kept, inject-kept, collect-kept, release-kept}
 use Rattle.model.proofs.Bounds.{Within, Bounded, new-port-within, fresh-within, handed-within, released-within}
 use Rattle.model.proofs.Bounds.{injected-within, with-within, step-bounded}
-use Rattle.log.specs.declared.event.FrameKind.the-variants.{Freed}
+use Rattle.log.specs.declared.event.FrameKind.the-variants.{Freed, Injected, Collected}
 use Rattle.log.specs.declared.event.Event.the-variants as event
 
 -- the two ports of a link after a login, or before any
@@ -312,14 +318,19 @@ module _ {B : Type 0} (M : BankCalls B) (law : (b : B) → LawfulBank M b) where
       go true = refl
       go false = refl
 
+  -- a release that is not refused is of a number handed out
+  released-out : (c : Chain B) (e : End) (k room : ℕ) → release-refusal M c e k room ≡ None
+      → among k (port-of c (end-port c e) .buffers .out) ≡ true
+  released-out c e k room z = go (among k (port-of c (end-port c e) .buffers .out)) (ltb room call-bytes) z
+    where
+      go : (t u : Bool) → cond t (cond u (Some refusal.SheetFull) None) (Some refusal.NotHandedOut) ≡ None → t ≡ true
+      go true u w = refl
+      go false u w = absurd (none-some (sym w))
+
   release-after : (c : Chain B) (l : Log) (e : End) (k room : ℕ) → Invariant M c l
       → release-refusal M c e k room ≡ None → Kept M l (released-at M c e k)
   release-after c l e k room h z = go (cases-eq (c .links) 0)
     where
-      out : (t u : Bool) → cond t (cond u (Some refusal.SheetFull) None) (Some refusal.NotHandedOut) ≡ None → t ≡ true
-      out true u w = refl
-      out false u w = absurd (none-some (sym w))
-
       go : (c .links ≡ 0) ⊎ (c .links ≡ 0 → ⊥) → Kept M l (released-at M c e k)
       go (inl w) = no-links (released-at M c e k .state) (l ++ released-at M c e k .events) w
           (rooms-kept (λ p. port-of c p .buffers .all) (λ p. port-of (released-at M c e k .state) p .buffers .all) l
@@ -328,7 +339,7 @@ module _ {B : Type 0} (M : BankCalls B) (law : (b : B) → LawfulBank M b) where
           (released-all (port-of c (end-port c e)) k)) (h .room) (tt, tt))
       go (inr n) =
           release-kept M law c l e k h (let m : c .links ≢ 0 = n in omega arith)
-          (out (among k (port-of c (end-port c e) .buffers .out)) (ltb room call-bytes) z)
+          (released-out c e k room z)
 
   login-after : (c : Chain B) (k x y m n : ℕ) → Fresh c → Fresh (logins M c k x y m n .state)
   login-after c k x y m n h = go (login-refusal M c k x y m n) refl
@@ -469,3 +480,102 @@ module _ {B : Type 0} (M : BankCalls B) (law : (b : B) → LawfulBank M b) where
       unless-ticks (release-refusal M c e k room) c (released-at M c e k) l (run-ticks r)
       (λ z. omega (arith, run-ticks r))
   run-ticks (drain r) = run-ticks r
+
+  -- every record of a run is well-formed
+  same-run : (c : Chain B) (l : Log) → FineRun M c l → FineRun M c (l ++ [])
+  same-run c l h = subst (FineRun M c) (sym (append-nil l)) h
+
+  unless-fine : (r : Option Refusal) (c : Chain B) (t : Turn (Chain B)) (l : Log) → FineRun M c l
+      → (r ≡ None → FineTurn M t) → FineRun M (unless-refused r c t .state) (l ++ unless-refused r c t .events)
+  unless-fine None c t l h f = fine-more M c l t h (f refl)
+  unless-fine (Some e) c t l h f = same-run c l h
+
+  new-ports-fine : (n q : ℕ) → FinePort (getD (replicate n new-port) q new-port)
+  new-ports-fine zero q = fresh-fine 1 1 0 (omega arith)
+  new-ports-fine (suc n) zero = fresh-fine 1 1 0 (omega arith)
+  new-ports-fine (suc n) (suc q) = new-ports-fine n q
+
+  login-fine : (o : Option Refusal) (c : Chain B) (k x y n : ℕ) → Fine M c → (o ≡ None → n ≤ 15)
+      → Fine M (unless-refused o c (no-act (logs-in M c k x y n)) .state)
+  login-fine None c k x y n h f =
+      fine-port M (with-port c (2 * k) (logged-in x y n)) (2 * k + 1) (logged-in y x n)
+      (fine-port M c (2 * k) (logged-in x y n) h (fresh-fine x y n (f refl))) (fresh-fine y x n (f refl))
+  login-fine (Some e) c k x y n h f = h
+
+  -- an act at an end, with one record of a fine frame
+  end-fine : (c : Chain B) (e : End) (kind : FrameKind) (f : Frame) (s : Port) → 0 < c .links → Fine M c → FinePort s
+      → FineNumber (f .number)
+      → FineTurn M (record { state = with-port c (end-port c e) s; events = event.Frame kind (end-port c e) f ∷ [] })
+  end-fine c e kind f s some h z w = record {
+    state = fine-port M c (end-port c e) s h z;
+    events = (well-frame kind (end-port c e) f (omega (arith, h .links, end-below c e some)) w, tt);
+  }
+
+  collect-fine : (c : Chain B) (l : Log) (e : End) (room : ℕ) → FineRun M c l
+      → FineRun M (collects M c e room .state) (l ++ collects M c e room .events)
+  collect-fine c l e room h =
+      go (eqb (c .links) 0) (head? (port-of c (end-port c e) .buffers .waiting)) refl
+      (oldest-fine (port-of c (end-port c e) .buffers .waiting) (h .state .ports (end-port c e) .wait))
+    where
+      last : (f : Frame) (u : Bool) → eqb (c .links) 0 ≡ false → FineNumber (f .number)
+          → FineRun M (collects-by M c e (cond u (Err refusal.SheetFull) (Ok f)) .state)
+          (l ++ collects-by M c e (cond u (Err refusal.SheetFull) (Ok f)) .events)
+      last f true z w = same-run c l h
+      last f false z w =
+          fine-more M c l (collects-by M c e (Ok f)) h
+          (end-fine c e Collected f (handed-out (port-of c (end-port c e))) (some-links c z) (h .state)
+          (handed-out-fine (port-of c (end-port c e)) (h .state .ports (end-port c e))) w)
+
+      go : (t : Bool) (o : Option Frame) → eqb (c .links) 0 ≡ t → FineOldest o
+          → FineRun M (collects-by M c e (cond t (Err refusal.NoLinks) (from-oldest M o room)) .state)
+          (l ++ collects-by M c e (cond t (Err refusal.NoLinks) (from-oldest M o room)) .events)
+      go true o z w = same-run c l h
+      go false None z w = same-run c l h
+      go false (Some f) z w = last f (ltb room call-bytes) z w
+
+  release-fine : (c : Chain B) (e : End) (k room : ℕ) → Fine M c → release-refusal M c e k room ≡ None
+      → FineTurn M (released-at M c e k)
+  release-fine c e k room h z = record {
+    state =
+        fine-port M c (end-port c e) (released (port-of c (end-port c e)) k) h
+        (released-fine (port-of c (end-port c e)) (h .ports (end-port c e)) k);
+    events = (
+      well-frame Freed (end-port c e) (record { number = k }) (below e)
+          (number-found k (port-of c (end-port c e) .buffers .out) (released-out c e k room z)
+          (h .ports (end-port c e) .outside)),
+      tt,
+    );
+  }
+    where
+      below : (e : End) → end-port c e < 16
+      below West = omega arith
+      below East = omega (arith, h .links)
+
+  pub run-fine : {b : B} {ph : Phase} {c : Chain B} {l : Log} → Run M b ph c l → FineRun M c l
+  run-fine {b} new = record {
+    state = record {
+      links = cabling b .few;
+      ports = new-ports-fine 16;
+      channels = λ d z. subst FineSymbols (sym (cabling b .idle d z)) tt;
+    };
+    log = tt;
+  }
+  run-fine (login {c = c} k x y m n r) = record {
+    state = login-fine (login-refusal M c k x y m n) c k x y n (run-fine r .state) (λ z. login-fits c k x y m n z .2);
+    log = run-fine r .log;
+  }
+  run-fine (start r) = run-fine r
+  run-fine (step {c = c} {l = l} m room r) =
+      unless-fine (step-refusal M c room) c (stepped M c) l (run-fine r)
+      (λ z. step-fine M law c (step-early c room (run-bounded r) z) (run-fine r .state))
+  run-fine (inject {c = c} {l = l} e room r) =
+      unless-fine (inject-refusal M c e room) c (injected M c e) l (run-fine r)
+      (λ z. end-fine c e Injected (next-frame (port-of c (end-port c e))) (injected-at (port-of c (end-port c e)))
+      (some-links c (passed (eqb (c .links) 0) refusal.NoLinks _ z .0)) (run-fine r .state)
+      (injected-fine (port-of c (end-port c e)) (run-fine r .state .ports (end-port c e)))
+      (next-fine (port-of c (end-port c e)) (run-fine r .state .ports (end-port c e))))
+  run-fine (collect {c = c} {l = l} m e room r) = collect-fine c l e room (run-fine r)
+  run-fine (release {c = c} {l = l} m e k room r) =
+      unless-fine (release-refusal M c e k room) c (released-at M c e k) l (run-fine r)
+      (λ z. release-fine c e k room (run-fine r .state) z)
+  run-fine (drain r) = run-fine r

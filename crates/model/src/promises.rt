@@ -14,8 +14,7 @@ pub fn laws_of_every_run<B: Bank>(bank: &B)
 // An accepted call writes no more bytes than it asks for.
 pub fn calls_fit<B: Bank>(_bank: &B)
     ensures { λ _. ⌜ CallsFit (B·Bank .calls) ⌝ }
-{
-}
+{}
 
 // A lost frame that is made good, by its page and its records; three of sixteen lost on the middle of three links,
 // and made good; sixteen lost between two marks, and missing for good.
