@@ -45,6 +45,8 @@ use Rattle.model.specs.Run.{Phase, is-cabled, is-running, is-draining, Moving,
 use Rattle.model.specs.Chain.{symbols, on}
 use Rattle.model.specs.OnePlace.{up-to}
 use Rattle.model.proofs.Lists.{none-some, first-is}
+use Rattle.model.proofs.Accounts.{no-tally}
+use Rattle.model.proofs.InStep.{InStep}
 use Rattle.model.proofs.Loop.{Loop}
 use Rattle.model.proofs.Records.{rooms-kept}
 use Rattle.model.proofs.Places.{facing-is, behind-below, port-same, port-other, end-below}
@@ -71,27 +73,19 @@ same-all (x ∷ xs) zero (suc j) s e = refl
 same-all (x ∷ xs) (suc i) zero s e = refl
 same-all (x ∷ xs) (suc i) (suc j) s e = same-all xs i j s e
 
-new-loop : (a b n : ℕ) → Loop (logged-in a b n) (logged-in b a n) [] [] no-account no-account
-new-loop a b n = record {
-  figures = omega arith;
-  frames = record {
-    sent-is = sym (zero-mod (2 ^ n));
-    due-is = λ e. absurd (false≢true e);
-    marks = tt;
-    below = pow-pos n;
-    good = le-refl 0;
-    ended = record { each = tt; all-lost = refl; all-good = refl };
-  };
-  rrdys = record {
-    sent-is = sym (zero-mod (2 ^ n));
-    due-is = λ e. absurd (false≢true e);
-    marks = tt;
-    below = pow-pos n;
-    good = le-refl 0;
-    ended = record { each = tt; all-lost = refl; all-good = refl };
-  };
-  order = refl;
+-- a stream of which nothing was sent
+new-stream : (n : ℕ) → InStep n (record { sent = 0; due = false }) 0 [] (no-tally .losses)
+new-stream n = record {
+  sent-is = sym (zero-mod (2 ^ n));
+  due-is = λ e. absurd (false≢true e);
+  marks = tt;
+  below = pow-pos n;
+  good = le-refl 0;
+  ended = record { each = tt; all-lost = refl; all-good = refl };
 }
+
+new-loop : (a b n : ℕ) → Loop (logged-in a b n) (logged-in b a n) [] [] no-account no-account
+new-loop a b n = record { figures = omega arith; frames = new-stream n; rrdys = new-stream n; order = refl }
 
 module _ {B : Type 0} (M : BankCalls B) (law : (b : B) → LawfulBank M b) where
   -- a cabled chain: nothing has moved yet
