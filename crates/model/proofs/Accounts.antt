@@ -1,6 +1,6 @@
 -- The records of one port, added up one by one: a device of the proofs, whose numbers are those of the figures.
-use mathlib.Core.List.{List, [], _∷_, _++_}
 use Prim.Native.Nat.{ℕ, _+_, _-_}
+use mathlib.Core.List.{List, [], _∷_, _++_}
 use Rattle.symbol.specs.declared.Frame.{Frame}
 use Rattle.symbol.specs.declared.Symbol.{Symbol}
 use Rattle.symbol.specs.declared.Symbol.the-variants as symbol

@@ -1,6 +1,6 @@
 -- The worked runs, computed.
-use mathlib.Core.Path.{refl}
 use Prim.Native.Nat.{ℕ, zero, suc}
+use mathlib.Core.Path.{refl}
 use Rattle.bank.specs.Bank.{BankCalls}
 use Rattle.links.specs.Links.{one-link, three-links}
 use Rattle.model.specs.declared.End.the-variants.{West}
@@ -8,8 +8,7 @@ use Rattle.model.specs.Port.{Turn}
 use Rattle.model.specs.Chain.{Chain}
 use Rattle.model.specs.Run.{Run, is-running, runs, new, login, start, inject, step}
 use Rattle.model.specs.Worked.{room, injecting, stepping, one-lost, some-lost, over-three, LossTable, SixSteps}
-use Rattle.model.specs.Worked.{ThreeMadeGood}
-use Rattle.model.specs.Worked.{SixteenMissing}
+use Rattle.model.specs.Worked.{ThreeMadeGood, SixteenMissing}
 
 module _ {B : Type 0} (M : BankCalls B) (b : B) where
   -- a turn whose records are the log of a run so far

@@ -1,17 +1,17 @@
 -- A counted stream: its sender, the symbols on its way, and its receiver keep in step.
-use mathlib.Core.Path.{_≡_, refl, sym, ap, subst, _∙_}
+use Prim.Native.Nat.{ℕ, suc, _+_, _-_, _%_, _^_, _≤_, _<_}
 use mathlib.Core.Bool.{Bool, true, false, _&&_, _||_}
 use mathlib.Core.List.{List, [], _∷_, _++_}
-use Prim.Native.Nat.{ℕ, suc, _+_, _-_, _%_, _^_, _≤_, _<_}
+use mathlib.Core.Path.{_≡_, refl, sym, ap, subst, _∙_}
 use native.Mathlib.Nat.{mod-lt, mod-le, mod-eq-of-lt, mod-add-mod, add-mod-mod, add-mod-left, mod-add-div, zero-mod}
 use native.Mathlib.Omega.{arith}
 use lib.Dec.{eqb, ltb}
 use lib.Pow.{pow-pos}
 use Rattle.std.proofs.shelf.Tests.{and-parts, eqb-true}
+use Rattle.std.specs.shelf.Lists.{All}
 use Rattle.model.specs.Port.{Outflow, lost-of}
 use Rattle.model.specs.Figures.{Role, counted, mark, other, one-counted, counted-in}
 use Rattle.model.specs.Stretches.{Arrived, WasLost, lost-among, lost-in, good-among}
-use Rattle.std.specs.shelf.Lists.{All}
 use Rattle.model.specs.WholeParts.{WholePart}
 use Rattle.model.proofs.Accounts.{Losses}
 

@@ -1,11 +1,12 @@
 -- The laws of every run.
-use mathlib.Core.Path.{_≡_, refl, sym, ap, subst, _∙_}
-use mathlib.Core.List.{List, [], _∷_, _++_, append-nil}
 use Prim.Native.Nat.{ℕ, zero, suc, _+_, _*_, _^_, _<_, min}
+use mathlib.Core.List.{List, [], _∷_, _++_, append-nil}
+use mathlib.Core.Path.{_≡_, refl, sym, ap, subst, _∙_}
 use native.Mathlib.Nat.{mod-lt}
 use native.Mathlib.Omega.{arith}
-use lib.Pow.{pow-pos}
 use lib.ListN.{length, length-append}
+use lib.Pow.{pow-pos}
+use Rattle.std.specs.shelf.Lists.{All}
 use Rattle.symbol.specs.declared.Frame.{Frame}
 use Rattle.symbol.specs.declared.Symbol.{Symbol}
 use Rattle.symbol.specs.declared.Symbol.the-variants as symbol
@@ -15,24 +16,23 @@ use Rattle.reader.specs.Reading.{WellFormed}
 use Rattle.bank.specs.Bank.{BankCalls, LawfulBank}
 use Rattle.model.specs.declared.End.{End}
 use Rattle.model.specs.Port.{Turn, no-act}
-use Rattle.model.specs.Chain.{Chain, facing, port-of, end-port, port-at-end, opposite, on}
-use Rattle.model.specs.Chain.{logins, injects, steps, collects, releases}
-use Rattle.model.specs.Run.{Log, Phase, Moving, Run, is-cabled, is-running, is-draining}
-use Rattle.model.specs.Run.{login, start, inject, step, collect, release, drain}
+use Rattle.model.specs.Chain.{Chain, facing, port-of, end-port, port-at-end, opposite, on, logins, injects, steps}
+use Rattle.model.specs.Chain.{collects, releases}
+use Rattle.model.specs.Run.{Log, Phase, Moving, Run, is-cabled, is-running, is-draining, login, start, inject, step}
+use Rattle.model.specs.Run.{collect, release, drain}
 use Rattle.model.specs.Figures.{Stream, Frames, RRdys, reported-lost, made-good, puts, injected, collected, ticks}
 use Rattle.model.specs.Stretches.{taken, taken-symbols, stretches, cut, nothing-put, lost-in, good-among}
 use Rattle.model.specs.CreditSum.{SumOfSix, CreditSum}
-use Rattle.std.specs.shelf.Lists.{All}
-use Rattle.model.specs.WholeParts.{WholePart, InParts, WholeParts}
-use Rattle.model.specs.OnePlace.{numbers, up-to, over-links, hop, taker, places, OfOneEnd, OnePlace}
-use Rattle.model.specs.RecordsTell.{PortTold, WayTold, PortInBounds, InBounds, RecordsTell}
+use Rattle.model.specs.WholeParts.{WholePart, InParts}
+use Rattle.model.specs.OnePlace.{numbers, up-to, over-links, hop, taker, places, OfOneEnd}
+use Rattle.model.specs.RecordsTell.{PortTold, WayTold, PortInBounds}
 use Rattle.model.specs.Laws.{Holds, EveryRun, Continues}
 use Rattle.model.proofs.Accounts.{Losses, account}
+use Rattle.model.proofs.Told.{told}
+use Rattle.model.proofs.Cuts.{SameLosses, put-stretches}
 use Rattle.model.proofs.InStep.{Wholes}
 use Rattle.model.proofs.Loop.{Loop}
 use Rattle.model.proofs.Records.{AllMeetRoom, room-at}
-use Rattle.model.proofs.Told.{told}
-use Rattle.model.proofs.Cuts.{SameLosses, put-stretches}
 use Rattle.model.proofs.Places.{facing-back, facing-below, end-below}
 use Rattle.model.proofs.Kept.{Invariant}
 use Rattle.model.proofs.Bounds.{Bounded}

@@ -1,9 +1,9 @@
 -- One loop of credit: the port that sends frames, the port that takes them and sends R_RDYs, and what is under way
 -- between them.
-use mathlib.Core.Path.{_≡_, refl, sym, ap, subst, _∙_}
+use Prim.Native.Nat.{ℕ, _+_, _-_, _%_, _^_, _≤_, _<_, min}
 use mathlib.Core.Bool.{Bool, true, false, cond, _&&_, _||_}
 use mathlib.Core.List.{List, [], _∷_, _++_, append-assoc}
-use Prim.Native.Nat.{ℕ, _+_, _-_, _%_, _^_, _≤_, _<_, min}
+use mathlib.Core.Path.{_≡_, refl, sym, ap, subst, _∙_}
 use native.Mathlib.Nat.{mod-le, add-zero, zero-add}
 use native.Mathlib.Omega.{arith}
 use lib.Dec.{eqb, ltb}
@@ -21,8 +21,7 @@ use Rattle.model.specs.Port.{Port, Outflow, lost-of, missed, arrived, received
 use Rattle.model.specs.Port.{frame-held, is-full, credit-back, frames-found, rrdys-found, frames-corrected}
 use Rattle.model.specs.Port.{rrdys-corrected, frames-made-good, rrdys-made-good, with-buffers, emptied}
 use Rattle.model.specs.Run.{Log}
-use Rattle.model.specs.Figures.{Stream, Frames, RRdys, Role, counted, mark, role, roles, counted-in, one-counted}
-use Rattle.model.specs.Figures.{how-many}
+use Rattle.model.specs.Figures.{Stream, Frames, RRdys, Role, counted, role, roles, counted-in, one-counted, how-many}
 use Rattle.model.specs.Stretches.{Passage, Arrived, last-good}
 use Rattle.model.proofs.Accounts.{Losses, Tally, Account, noted, noted-all, with-tallies, with-taken, buffers-in-use}
 use Rattle.model.proofs.Accounts.{credit-used}

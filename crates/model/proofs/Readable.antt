@@ -1,19 +1,18 @@
 -- Every record of a run is well-formed, so its log reads back as its events.
-use mathlib.Core.Path.{_≡_, refl, sym, ap, subst, _∙_}
-use mathlib.Core.Logic.{_⊎_, inl, inr, _≢_}
-use mathlib.Core.Bool.{Bool, true, false, cond, _&&_, _||_}
-use mathlib.Core.List.{List, [], _∷_, _++_, append-nil}
 use Prim.Native.Nat.{ℕ, zero, suc, _+_, _-_, _*_, _^_, _≤_, _<_}
+use mathlib.Core.Bool.{Bool, true, false, cond, _&&_, _||_}
+use mathlib.Core.List.{List, [], _∷_, _++_}
+use mathlib.Core.Logic.{_⊎_, inl, inr, _≢_}
+use mathlib.Core.Path.{_≡_, refl, sym, subst}
 use native.Mathlib.Nat.{mod-lt}
 use native.Mathlib.Omega.{arith}
 use lib.Dec.{eqb, ltb}
 use lib.Pow.{pow-pos, pow-mono}
-use lib.ListN.{getD, replicate}
+use Rattle.std.proofs.shelf.Elements.{all-append}
+use Rattle.std.proofs.shelf.Tests.{cond-both, lt-ltb, eqb-false, eqb-true, cases-eq, or-parts, false≢true}
 use Rattle.std.specs.declared.option.Option.{Option}
 use Rattle.std.specs.declared.option.Option.the-variants.{Some, None}
 use Rattle.std.specs.shelf.Lists.{All}
-use Rattle.std.proofs.shelf.Elements.{all-append}
-use Rattle.std.proofs.shelf.Tests.{cond-both, lt-ltb, eqb-false, eqb-true, cases-eq, or-parts, false≢true}
 use Rattle.ring.specs.Queue.{head?, tail}
 use Rattle.symbol.specs.declared.Frame.{Frame}
 use Rattle.symbol.specs.declared.Item.{Item}
@@ -30,20 +29,19 @@ use Rattle.log.specs.declared.event.ItemKind.{ItemKind}
 use Rattle.log.specs.declared.event.ItemKind.the-variants.{Put, Got, Lost as Missed}
 use Rattle.reader.specs.Reading.{WellFormed}
 use Rattle.bank.specs.Bank.{BankCalls, LawfulBank}
-use Rattle.model.specs.Port.{Port, Turn, and-then, new-port, logged-in, lost-of, frames-found, rrdys-found, correction}
-use Rattle.model.specs.Port.{is-full, frame-held, credit-back, received, receive-events, frame-of, choice, has-sent}
-use Rattle.model.specs.Port.{after-send, emptied, sent-on, unsent, with-buffers, lent-out, handed-out, among, without}
-use Rattle.model.specs.Port.{freed-of, released, next-frame, injected-at}
+use Rattle.model.specs.Port.{Port, Turn, and-then, logged-in, lost-of, frames-found, rrdys-found, correction, is-full}
+use Rattle.model.specs.Port.{frame-held, credit-back, received, receive-events, frame-of, choice, after-send, emptied}
+use Rattle.model.specs.Port.{sent-on, unsent, with-buffers, lent-out, handed-out, among, without, freed-of, released}
+use Rattle.model.specs.Port.{next-frame, injected-at}
 use Rattle.model.specs.Chain.{Chain, facing, behind, is-end, freed-events, sound, symbols, port-of, with-port}
-use Rattle.model.specs.Chain.{with-bank}
-use Rattle.model.specs.Chain.{on, each-port, takes-item, takes, source, drawn, sends-symbol, sent, sends, ticked}
-use Rattle.model.specs.Chain.{stepped}
-use Rattle.model.specs.Chain.{last-tick}
+use Rattle.model.specs.Chain.{with-bank, on, each-port, takes-item, takes, source, drawn, sends-symbol, sends, ticked}
+use Rattle.model.specs.Chain.{stepped, last-tick}
 use Rattle.model.specs.Run.{Log}
-use Rattle.model.proofs.Banks.{bank-put, bank-put-off, bank-take, bank-take-off, bank-take-none, bank-ready, bank-step}
-use Rattle.model.proofs.Bounds.{at-port}
+use Rattle.model.proofs.Banks.{bank-put, bank-put-off, bank-take, bank-take-off, bank-take-none, bank-ready}
+use Rattle.model.proofs.Banks.{bank-step}
 use Rattle.model.proofs.Links.{takes-links, sends-links, each-links}
 use Rattle.model.proofs.Places.{behind-below, facing-below}
+use Rattle.model.proofs.Bounds.{at-port}
 
 -- a frame's number as a record has it: from 1 on, and in four bytes
 abbrev pub FineNumber : ℕ → Type 0

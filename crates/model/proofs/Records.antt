@@ -1,27 +1,27 @@
 -- The records of one port in a log that grows.
-use mathlib.Core.Path.{_≡_, refl, sym, ap, subst, _∙_, fun-ext}
+use Prim.Native.Nat.{ℕ, _<_}
 use mathlib.Core.Bool.{Bool, true, false, cond}
 use mathlib.Core.List.{List, [], _∷_, _++_, append-assoc, append-nil}
-use Prim.Native.Nat.{ℕ, _<_}
+use mathlib.Core.Path.{_≡_, refl, sym, ap, subst, _∙_, fun-ext}
 use lib.Dec.{eqb}
-use Rattle.symbol.specs.declared.Symbol.{Symbol}
-use Rattle.symbol.specs.declared.Note.{Note}
-use Rattle.symbol.specs.declared.Note.the-variants.{Sound, Lost}
-use Rattle.log.specs.declared.event.Event.{Event}
-use Rattle.model.specs.Run.{Log}
-use Rattle.model.specs.Stretches.{Passage, Stretches}
-use Rattle.model.specs.Figures.{is-at, records}
-use Rattle.model.proofs.Accounts.{Account, noted, noted-all, account, no-account, buffers-in-use, credit-used}
-use Rattle.model.specs.Port.{Port, frames-found, rrdys-found}
-use Rattle.model.proofs.Loop.{taken-events}
-use Rattle.symbol.specs.declared.Frame.{Frame}
 use Rattle.std.specs.shelf.Lists.{All}
-use Rattle.symbol.specs.declared.Symbol.the-variants as symbol
+use Rattle.symbol.specs.declared.Frame.{Frame}
 use Rattle.symbol.specs.declared.Mark.{Mark as MarkIs}
 use Rattle.symbol.specs.declared.Mark.the-variants.{BbScS, BbScR}
-use Rattle.log.specs.declared.event.ItemKind.the-variants.{Put, Got, Lost as Missed}
-use Rattle.log.specs.declared.event.FrameKind.the-variants.{Freed}
+use Rattle.symbol.specs.declared.Note.{Note}
+use Rattle.symbol.specs.declared.Note.the-variants.{Sound, Lost}
+use Rattle.symbol.specs.declared.Symbol.{Symbol}
+use Rattle.symbol.specs.declared.Symbol.the-variants as symbol
+use Rattle.log.specs.declared.event.Event.{Event}
 use Rattle.log.specs.declared.event.Event.the-variants as event
+use Rattle.log.specs.declared.event.FrameKind.the-variants.{Freed}
+use Rattle.log.specs.declared.event.ItemKind.the-variants.{Put, Got, Lost as Missed}
+use Rattle.model.specs.Port.{Port, frames-found, rrdys-found}
+use Rattle.model.specs.Run.{Log}
+use Rattle.model.specs.Figures.{is-at, records}
+use Rattle.model.specs.Stretches.{Passage, Stretches}
+use Rattle.model.proofs.Accounts.{Account, noted, noted-all, account, no-account, buffers-in-use, credit-used}
+use Rattle.model.proofs.Loop.{taken-events}
 
 of-port-append : (p : ℕ) (l es : Log) → records p (l ++ es) ≡ records p l ++ records p es
 of-port-append p [] es = refl

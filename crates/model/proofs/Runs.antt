@@ -1,61 +1,55 @@
 -- Every run, from the cabling on.
-use mathlib.Core.Path.{_≡_, refl, sym, ap, subst, _∙_}
-use mathlib.Core.Logic.{_⊎_, inl, inr, _≢_}
+use Prim.Native.Nat.{ℕ, zero, suc, _+_, _-_, _*_, _/_, _%_, _^_, _≤_, _<_}
 use mathlib.Core.Bool.{Bool, true, false, cond, _||_}
 use mathlib.Core.List.{List, [], _∷_, _++_, append-nil}
-use Prim.Native.Nat.{ℕ, zero, suc, _+_, _-_, _*_, _/_, _%_, _^_, _≤_, _<_}
+use mathlib.Core.Logic.{_⊎_, inl, inr, _≢_}
+use mathlib.Core.Path.{_≡_, refl, sym, ap, subst, _∙_}
 use native.Mathlib.Nat.{le-refl, zero-mod}
 use native.Mathlib.Omega.{arith}
 use lib.Dec.{eqb, ltb, leb}
-use lib.Pow.{pow-pos}
 use lib.ListN.{length, getD, set, replicate, length-set, length-replicate, getD-replicate}
+use lib.Pow.{pow-pos}
+use Rattle.std.proofs.shelf.Tests.{false≢true, eqb-false, cases-eq, leb-true, leb-false, and-parts, or-parts}
+use Rattle.std.proofs.shelf.Tests.{ltb-false}
 use Rattle.std.specs.declared.option.Option.{Option}
 use Rattle.std.specs.declared.option.Option.the-variants.{Some, None}
 use Rattle.std.specs.declared.result.Result.{Result}
 use Rattle.std.specs.declared.result.Result.the-variants.{Ok, Err}
-use Rattle.std.proofs.shelf.Tests.{false≢true, eqb-true, eqb-false, cases-eq, leb-true, leb-false, and-parts}
-use Rattle.std.proofs.shelf.Tests.{or-parts, ltb-false}
 use Rattle.ring.specs.Queue.{head?, tail, empty}
+use Rattle.symbol.specs.declared.Frame.{Frame}
+use Rattle.symbol.specs.declared.Item.{Item}
+use Rattle.log.specs.declared.event.Event.the-variants as event
+use Rattle.log.specs.declared.event.FrameKind.{FrameKind}
+use Rattle.log.specs.declared.event.FrameKind.the-variants.{Freed, Injected, Collected}
+use Rattle.bank.specs.Bank.{BankCalls, LawfulBank, count}
 use Rattle.model.specs.declared.End.{End}
 use Rattle.model.specs.declared.End.the-variants.{West, East}
-use Rattle.symbol.specs.declared.Item.{Item}
 use Rattle.model.specs.declared.Refusal.{Refusal}
 use Rattle.model.specs.declared.Refusal.the-variants as refusal
-use Rattle.symbol.specs.declared.Frame.{Frame}
-use Rattle.bank.specs.Bank.{BankCalls, LawfulBank, count}
-use Rattle.model.specs.Port.{freed-of}
-use Rattle.model.specs.Chain.{injected, call-bytes, last-tick}
-use Rattle.model.specs.Run.{new, login, start, inject, step, collect, release, drain}
+use Rattle.model.specs.Port.{freed-of, next-frame, Port, Turn, no-act, among, handed-out, released, injected-at}
+use Rattle.model.specs.Port.{logged-in, new-port}
+use Rattle.model.specs.Chain.{injected, call-bytes, last-tick, Chain, facing, port-of, with-port, end-port, all-idle}
+use Rattle.model.specs.Chain.{cabled-links, cabled, stepped, from-oldest, collectable, collects-by, collects}
+use Rattle.model.specs.Chain.{released-at, logs-in, logins, step-refusal, inject-refusal, release-refusal}
+use Rattle.model.specs.Chain.{login-refusal, unless-refused, symbols, on}
+use Rattle.model.specs.Run.{new, login, start, inject, step, collect, release, drain, Log, Phase, is-cabled}
+use Rattle.model.specs.Run.{is-running, is-draining, Moving, runs, drains, Run}
 use Rattle.model.specs.Figures.{ticks, tick-in}
-use Rattle.model.proofs.Records.{AllMeetRoom}
-use Rattle.log.specs.declared.event.FrameKind.{FrameKind}
-use Rattle.model.specs.Port.{next-frame}
-use Rattle.model.proofs.Readable.{FineNumber, FineSymbols, FinePort, FineOldest, Fine, FineTurn, FineRun, fresh-fine}
-use Rattle.model.proofs.Readable.{well-frame, fine-port, fine-more, oldest-fine, handed-out-fine, released-fine}
-use Rattle.model.proofs.Readable.{next-fine, injected-fine, number-found, step-fine}
-use Rattle.model.proofs.Sizes.{total-append, step-ticks}
-use Rattle.model.proofs.Bounds.{stepped-tick}
-use Rattle.model.specs.Run.{Log}
-use Rattle.model.proofs.Accounts.{account, no-account}
-use Rattle.model.specs.Port.{Port, Turn, no-act, among, without, handed-out, released, injected-at, logged-in, new-port}
-use Rattle.model.specs.Chain.{Chain, facing, port-of, with-port, end-port, all-idle, cabled-links, cabled, stepped}
-use Rattle.model.specs.Chain.{from-oldest, collectable, collects-by, collects, released-at, logs-in, logins}
-use Rattle.model.specs.Chain.{step-refusal, inject-refusal, release-refusal, login-refusal, unless-refused}
-use Rattle.model.specs.Run.{Phase, is-cabled, is-running, is-draining, Moving, runs, drains, Run}
-use Rattle.model.specs.Chain.{symbols, on}
 use Rattle.model.specs.OnePlace.{up-to}
+use Rattle.model.proofs.Accounts.{account, no-account, no-tally}
 use Rattle.model.proofs.Lists.{none-some, first-is}
-use Rattle.model.proofs.Accounts.{no-tally}
 use Rattle.model.proofs.InStep.{InStep}
 use Rattle.model.proofs.Loop.{Loop}
-use Rattle.model.proofs.Records.{rooms-kept}
+use Rattle.model.proofs.Records.{AllMeetRoom, rooms-kept}
 use Rattle.model.proofs.Places.{facing-is, behind-below, port-same, port-other, end-below}
 use Rattle.model.proofs.Kept.{Loops, loop-same, Stocked, Invariant, Kept}
 use Rattle.model.proofs.Calls.{step-kept, inject-kept, collect-kept, release-kept}
-use Rattle.model.proofs.Bounds.{Within, Bounded, new-port-within, fresh-within, handed-within, released-within}
-use Rattle.model.proofs.Bounds.{injected-within, with-within, step-bounded}
-use Rattle.log.specs.declared.event.FrameKind.the-variants.{Freed, Injected, Collected}
-use Rattle.log.specs.declared.event.Event.the-variants as event
+use Rattle.model.proofs.Bounds.{stepped-tick, Within, Bounded, new-port-within, fresh-within, handed-within}
+use Rattle.model.proofs.Bounds.{released-within, injected-within, with-within, step-bounded}
+use Rattle.model.proofs.Sizes.{total-append, step-ticks}
+use Rattle.model.proofs.Readable.{FineNumber, FineSymbols, FinePort, FineOldest, Fine, FineTurn, FineRun, fresh-fine}
+use Rattle.model.proofs.Readable.{well-frame, fine-port, fine-more, oldest-fine, handed-out-fine, released-fine}
+use Rattle.model.proofs.Readable.{next-fine, injected-fine, number-found, step-fine}
 
 -- the two ports of a link after a login, or before any
 pub record LoggedIn (s r : Port) : Type 0 where

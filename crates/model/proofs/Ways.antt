@@ -1,35 +1,30 @@
 -- The frames of a way: none is gained or gone, and none passes another.
-use mathlib.Core.Path.{_≡_, refl, sym, ap, subst, _∙_}
-use mathlib.Core.Logic.{_⊎_, inl, inr, _≢_}
+use Prim.Native.Nat.{ℕ, zero, suc, _+_, _-_, _*_, _≤_, _<_}
 use mathlib.Core.Bool.{Bool, cond}
 use mathlib.Core.List.{List, [], _∷_, _++_, append-nil}
-use Prim.Native.Nat.{ℕ, zero, suc, _+_, _-_, _*_, _≤_, _<_}
+use mathlib.Core.Logic.{_⊎_, inl, inr, _≢_}
+use mathlib.Core.Path.{_≡_, refl, sym, ap, subst, _∙_}
 use native.Mathlib.Omega.{arith}
 use lib.Dec.{eqb}
 use Rattle.std.proofs.shelf.Tests.{eq-eqb, ne-eqb, cases-eq}
-use Rattle.symbol.specs.declared.Symbol.{Symbol}
-use Rattle.log.specs.declared.event.Event.{Event}
 use Rattle.symbol.specs.declared.Frame.{Frame}
+use Rattle.symbol.specs.declared.Symbol.{Symbol}
+use Rattle.symbol.specs.declared.Symbol.the-variants as symbol
+use Rattle.log.specs.declared.event.Event.{Event}
+use Rattle.log.specs.declared.event.Event.the-variants as event
+use Rattle.log.specs.declared.event.ItemKind.the-variants.{Put, Got, Lost as Missed}
 use Rattle.bank.specs.Bank.{BankCalls}
-use Rattle.model.specs.Figures.{lost-frames, injected, collected}
-use Rattle.model.specs.OnePlace.{numbers}
-use Rattle.model.proofs.Told.{frames-append, told}
-use Rattle.model.specs.Run.{Log}
-use Rattle.model.proofs.Accounts.{Account, noted, noted-all, account, no-account}
-use Rattle.model.specs.Figures.{records, frames-among}
 use Rattle.model.specs.declared.End.{End}
 use Rattle.model.specs.declared.End.the-variants.{West, East}
-use Rattle.model.specs.Chain.{Chain, behind, port-of, end-port}
-use Rattle.model.specs.Chain.{on, opposite}
-use Rattle.model.specs.OnePlace.{up-to, times, InOrderOf, nothing, left-out, next, over-links, hop, taker, at-hop}
-use Rattle.model.specs.OnePlace.{places}
+use Rattle.model.specs.Chain.{Chain, behind, port-of, end-port, on, opposite}
+use Rattle.model.specs.Run.{Log}
+use Rattle.model.specs.Figures.{lost-frames, injected, collected, records, frames-among}
+use Rattle.model.specs.OnePlace.{numbers, up-to, times, InOrderOf, nothing, left-out, next, over-links, hop, taker}
+use Rattle.model.specs.OnePlace.{at-hop, places}
+use Rattle.model.proofs.Accounts.{Account, noted, noted-all, account, no-account}
+use Rattle.model.proofs.Told.{frames-append, told}
 use Rattle.model.proofs.Places.{facing-is, behind-is}
 use Rattle.model.proofs.Kept.{Invariant}
-use Rattle.symbol.specs.declared.Symbol.the-variants as symbol
-use Rattle.symbol.specs.declared.Mark.the-variants.{BbScS, BbScR}
-use Rattle.log.specs.declared.event.ItemKind.the-variants.{Put, Got, Lost as Missed}
-use Rattle.log.specs.declared.event.FrameKind.the-variants.{Freed, Injected, Collected}
-use Rattle.log.specs.declared.event.Event.the-variants as event
 
 times-append : (k : ℕ) (xs ys : List Frame) → times k (xs ++ ys) ≡ times k xs + times k ys
 times-append k [] ys = omega arith

@@ -1,6 +1,6 @@
 -- One port: its credit, its buffers and its counted streams, and what it does with what it takes and sends.
 use Prim.Native.Nat.{ℕ, _+_, _-_, _%_, _^_, min}
-use mathlib.Core.Bool.{Bool, true, false, cond, _&&_, _||_}
+use mathlib.Core.Bool.{Bool, false, cond, _&&_, _||_}
 use mathlib.Core.List.{List, [], _∷_, _++_}
 use lib.Dec.{eqb, ltb}
 use Rattle.std.specs.declared.option.Option.{Option}

@@ -1,14 +1,14 @@
 -- The law of whole parts: what each stretch of a counted stream leaves missing.
 use Prim.Native.Nat.{ℕ, _+_, _*_, _/_, _^_, _≤_, _<_}
-use mathlib.Core.Path.{_≡_}
 use mathlib.Core.List.{_++_}
+use mathlib.Core.Path.{_≡_}
 use Rattle.std.specs.shelf.Lists.{All}
 use Rattle.bank.specs.Bank.{BankCalls}
 use Rattle.model.specs.Chain.{Chain, facing, port-of, on}
 use Rattle.model.specs.Run.{Log}
 use Rattle.model.specs.Figures.{Stream, puts, reported-lost, made-good}
-use Rattle.model.specs.Stretches.{Stretch, taken, taken-symbols, stretches, losses, left-missing}
-use Rattle.model.specs.Stretches.{lost-among, lost-in, good-among}
+use Rattle.model.specs.Stretches.{Stretch, taken, taken-symbols, stretches, losses, left-missing, lost-among, lost-in}
+use Rattle.model.specs.Stretches.{good-among}
 
 -- a stretch that a mark has ended leaves 2^N times the whole part of its losses over 2^N missing, and fewer than 2^N
 -- losses leave nothing

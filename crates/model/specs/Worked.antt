@@ -1,8 +1,8 @@
 -- Runs that were worked out by hand, over the banks of one link and of three.
 use Prim.Native.Nat.{ℕ, zero, suc}
-use mathlib.Core.Path.{_≡_}
 use mathlib.Core.Bool.{cond}
 use mathlib.Core.List.{List, [], _∷_}
+use mathlib.Core.Path.{_≡_}
 use lib.Dec.{eqb}
 use Rattle.symbol.specs.declared.SymbolKind.the-variants.{Frame}
 use Rattle.log.specs.Format.{encode-all}
