@@ -188,31 +188,36 @@ module _ {B : Type 0} (M : BankCalls B) (law : (b : B) → LawfulBank M b) where
         rrdys-lost =
             exact-small (sends-in p lt .figures .rrdys-lost) (omega (arith, few .ports p .rrdys-lost, few .tick))
 
+    injected-is : (e : End) → 0 < c .links → port-at-end c e .outbox .injected ≡ length (injected (end-port c e) l)
+    injected-is e some =
+        sym (length-up-to (port-at-end c e .outbox .injected))
+        ∙ ap length (sym (h .numbered e some))
+        ∙ length-numbers (account (end-port c e) l .injected)
+        ∙ ap length (told (end-port c e) l .injected-are)
+
     numbered : (e : End) → 0 < c .links
-        → numbers (injected (end-port c e) l) ≡ up-to (port-at-end c e .outbox .injected)
-    numbered e some = ap numbers (sym (told (end-port c e) l .injected-are)) ∙ h .numbered e some
+        → numbers (injected (end-port c e) l) ≡ up-to (length (injected (end-port c e) l))
+    numbered e some =
+        ap numbers (sym (told (end-port c e) l .injected-are)) ∙ h .numbered e some ∙ ap up-to (injected-is e some)
 
     of-one-end : (e : End) → 0 < c .links → OfOneEnd M c l e
     of-one-end e some = record {
       numbered = numbered e some;
-      one = λ k z n. often k ∙ up-to-in (port-at-end c e .outbox .injected) k z n;
-      no-other = λ k z. often k ∙ up-to-out (port-at-end c e .outbox .injected) k z;
+      one = λ k z n. often k ∙ up-to-in (length (injected (end-port c e) l)) k z n;
+      no-other = λ k z. often k ∙ up-to-out (length (injected (end-port c e) l)) k z;
       in-order = collected-in-order M c l h some e;
     }
       where
-        often : (k : ℕ) → places M c l e k ≡ how-often k (up-to (port-at-end c e .outbox .injected))
-        often k = places-are M c l h some e k ∙ times-often k (injected (end-port c e) l)
-            ∙ ap (how-often k) (numbered e some)
+        often : (k : ℕ) → places M c l e k ≡ how-often k (up-to (length (injected (end-port c e) l)))
+        often k =
+            places-are M c l h some e k ∙ times-often k (injected (end-port c e) l) ∙ ap (how-often k) (numbered e some)
 
     taker-below : (e : End) (i : ℕ) → i < c .links → taker c e i < 2 * c .links
     taker-below e i z = facing-below (c .links) (hop c e i) (taker c e i) refl (hop-below M c e i z)
 
     way-told : (e : End) → 0 < c .links → WayTold c l e
     way-told e some = record {
-      injected-is =
-          sym
-          (sym (length-numbers (injected (end-port c e) l)) ∙ ap length (numbered e some)
-          ∙ length-up-to (port-at-end c e .outbox .injected));
+      injected-is = injected-is e some;
       collected-is = port-told (end-port c (opposite e)) (end-below c (opposite e) some) .handed-is;
       lost-is = links-same _ _ (c .links) (λ i z. port-told (taker c e i) (taker-below e i z) .frames-lost);
     }
