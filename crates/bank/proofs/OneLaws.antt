@@ -1,5 +1,5 @@
 -- A bank of one channel keeps the laws of a bank.
-use Prim.Native.Nat.{ℕ, _<_, _≤_}
+use Prim.Native.Nat.{ℕ}
 use mathlib.Core.Bool.{cond}
 use mathlib.Core.Logic.{_≢_, ⊎-elim}
 use mathlib.Core.Path.{_≡_, refl, sym, ap, subst, _∙_}
@@ -9,7 +9,6 @@ use Rattle.std.proofs.shelf.Tests.{cond-false, ne-eqb, cases-eq}
 use Rattle.channel.specs.Calls.{Calls, Lawful}
 use Rattle.bank.specs.Bank.{LawfulBank, channel-at, absent}
 use Rattle.bank.specs.Banks.{one}
-use Rattle.symbol.specs.declared.Item.{Item}
 
 module _ {C : Type 0} (l : ℕ) (m : Calls C) (c : C) where
   other : {X : Type 0} (k : ℕ) (x y : X) → k ≢ 0 → cond (eqb k 0) x y ≡ y

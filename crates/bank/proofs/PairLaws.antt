@@ -2,12 +2,12 @@
 use Prim.Native.Nat.{ℕ, _-_, _<_, _≤_}
 use mathlib.Core.Bool.{Bool, false}
 use mathlib.Core.Logic.{_≢_}
-use mathlib.Core.Path.{_≡_, refl, sym, ap, ap₂, _∙_}
+use mathlib.Core.Path.{_≡_, refl, ap, ap₂, _∙_}
 use mathlib.Core.List.{_++_}
 use native.Mathlib.Omega.{arith}
 use lib.ListN.{length, take}
 use Rattle.symbol.specs.declared.Item.{Item}
-use Rattle.channel.specs.Calls.{Lawful, Known}
+use Rattle.channel.specs.Calls.{Lawful}
 use Rattle.bank.specs.Bank.{BankCalls, LawfulBank, channel-at, absent, count, most-channels}
 use Rattle.bank.specs.Banks.{Apart, pair, route, routed}
 use Rattle.bank.specs.declared.pair.Route.{Route}
@@ -153,7 +153,8 @@ module _ {B C : Type 0} (m : BankCalls B) (n : BankCalls C) (a : B) (b : C) (la 
     channels = in-pair;
     most = omega (arith, pair-count (m .letters a) (n .letters b));
     put-others = λ k j i ne.
-        moved-others (λ h. m .put a h i) (λ h. n .put b h i) k j ne (λ h. la .put-letters h i) (λ h g. la .put-others h g i) (λ h g. lb .put-others h g i);
+        moved-others (λ h. m .put a h i) (λ h. n .put b h i) k j ne (λ h. la .put-letters h i)
+        (λ h g. la .put-others h g i) (λ h g. lb .put-others h g i);
     take-others = λ k j ne. moved-others (m .take a) (n .take b) k j ne (la .take-letters) (la .take-others) (lb .take-others);
     put-letters = λ k i. moved-letters (λ h. m .put a h i) (λ h. n .put b h i) k (λ h. la .put-letters h i) (λ h. lb .put-letters h i);
     take-letters = λ k. moved-letters (m .take a) (n .take b) k (la .take-letters) (lb .take-letters);

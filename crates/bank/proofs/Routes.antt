@@ -1,12 +1,11 @@
 -- Where the numbers of a pair lead.
 use Prim.Native.Nat.{ℕ, _+_, _-_, _<_, _≤_, min}
-use mathlib.Core.Bool.{cond}
 use mathlib.Core.Logic.{⊎-elim}
 use mathlib.Core.Path.{_≡_, refl, sym, ap, subst, _∙_}
 use mathlib.Core.List.{List, _++_}
 use native.Mathlib.Omega.{arith}
 use lib.Dec.{ltb}
-use lib.ListN.{length, take, getD}
+use lib.ListN.{length, take}
 use Rattle.std.proofs.shelf.Lists.{length-take, length-append, getD-take, getD-append-left, getD-append-right, getD-past}
 use Rattle.std.proofs.shelf.Tests.{cond-true, cond-false, lt-ltb, le-ltb, cases-lt}
 use Rattle.bank.specs.Bank.{BankCalls, count, letter-at, most-channels}

@@ -1,12 +1,12 @@
 -- What a bank means: channels under numbers from 0.
 use Prim.Native.Nat.{ℕ, _≤_, _<_}
-use mathlib.Core.Bool.{Bool, false}
+use mathlib.Core.Bool.{Bool, true, false}
 use mathlib.Core.Logic.{_≢_}
 use mathlib.Core.Path.{_≡_}
 use mathlib.Core.List.{List, []}
 use lib.ListN.{length, getD}
 use Rattle.symbol.specs.declared.Item.{Item}
-use Rattle.channel.specs.Calls.{Calls, Known, Lawful}
+use Rattle.channel.specs.Calls.{Calls, Known, Lawful, idle}
 
 -- a count stops here, and no number from here on reaches a channel
 abbrev pub most-channels : ℕ
@@ -33,6 +33,10 @@ count m b = length (m .letters b)
 -- the letter at a number: a hyphen where there is no channel
 abbrev pub letter-at : {B : Type 0} → BankCalls B → B → ℕ → ℕ
 letter-at m b k = getD (m .letters b) k 45
+
+-- no item waits at any number
+abbrev pub All-idle : {B : Type 0} → BankCalls B → B → Type 0
+All-idle m b = (k : ℕ) → idle (m .known b k) ≡ true
 
 -- the bank, seen as the channel at one of its numbers
 abbrev pub channel-at : {B : Type 0} → BankCalls B → ℕ → Calls B

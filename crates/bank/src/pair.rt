@@ -1,7 +1,7 @@
 // A pair of banks, the first one's numbers first.
 ghost use Rattle.bank.specs.Bank.{count};
 ghost use Rattle.bank.specs.Banks.{Kept-apart, pair, route};
-ghost use Rattle.bank.specs.States.{pair-state};
+ghost use Rattle.bank.specs.States.{both, pair-state};
 ghost use mathlib.Core.Path.{_≡_};
 use crate::Bank;
 use symbol::Item;
@@ -16,7 +16,7 @@ pub struct Pair<P, Q> {
 }
 
 // Where a number of a pair leads.
-pub enum Route {
+enum Route {
     First(u8),
     Second(u8),
     Nowhere,
@@ -24,7 +24,7 @@ pub enum Route {
 
 impl<P: Bank, Q: Bank> Pair<P, Q> {
     pub fn new(first: P, second: Q) -> Self
-        ensures state { λ r. ⌜ _≡_ {A = P·Bank .Model × Q·Bank .Model} (pair-state (P·Bank .model) (Q·Bank .model) r) (P·Bank .model first, Q·Bank .model second) ⌝ }
+        ensures state { λ r. ⌜ pair-state (P·Bank .model) (Q·Bank .model) r ≡ both (P·Bank .model first) (Q·Bank .model second) ⌝ }
         ensures apart { λ _. ⌜ Kept-apart (P·Bank .calls) (Q·Bank .calls) ⌝ }
     {
         Pair { first, second }

@@ -1,12 +1,11 @@
 -- Lists as queues, and what a step may make of one.
 use Prim.Native.Nat.{ℕ}
-use mathlib.Core.Bool.{Bool, true, false, cond}
+use mathlib.Core.Bool.{true, false}
 use mathlib.Core.Path.{_≡_, refl}
 use mathlib.Core.List.{List, [], _∷_, _++_, map}
-use native.Mathlib.Omega.{arith}
-use lib.Dec.{ltb, eqb}
+use lib.Dec.{ltb}
 use lib.ListN.{length}
-use Rattle.std.proofs.shelf.Tests.{cond-both, false≢true, true≢false, ne-eqb}
+use Rattle.std.proofs.shelf.Tests.{cond-both, false≢true, true≢false}
 use Rattle.channel.specs.Calls.{Aged, none, kept}
 use Rattle.ring.specs.Queue.{pushed, empty, tail}
 use Rattle.symbol.specs.declared.Item.{Item}
@@ -21,11 +20,8 @@ empty-idle n (x ∷ xs) l e = absurd (false≢true e)
 
 pub pushed-some : {X : Type 0} (n : ℕ) (xs : List X) (x : X) → empty xs ≡ false → empty (pushed n xs x) ≡ false
 pushed-some n [] x e = absurd (true≢false e)
-pushed-some n (y ∷ xs) x e = cond-both (ltb (length (y ∷ xs)) n) ((y ∷ xs) ++ (x ∷ [])) (y ∷ xs) (λ ys. empty ys ≡ false) (λ _. refl) (λ _. refl)
-
-pub map-idle : {X Y : Type 0} (f : X → Y) (xs : List X) → eqb (length xs) 0 ≡ empty (map f xs)
-map-idle f [] = refl
-map-idle f (x ∷ xs) = ne-eqb (length (x ∷ xs)) 0 (λ e. omega arith)
+pushed-some n (y ∷ xs) x e =
+    cond-both (ltb (length (y ∷ xs)) n) ((y ∷ xs) ++ (x ∷ [])) (y ∷ xs) (λ ys. empty ys ≡ false) (λ _. refl) (λ _. refl)
 
 pub map-empty : {X Y : Type 0} (f : X → Y) (xs : List X) → empty (map f xs) ≡ empty xs
 map-empty f [] = refl

@@ -1,6 +1,6 @@
 -- No item of a delay ring waits longer than its delay, or comes to.
 use Prim.Native.Nat.{ℕ, _-_, _≤_}
-use mathlib.Core.Bool.{true, _&&_}
+use mathlib.Core.Bool.{true}
 use mathlib.Core.Path.{_≡_, refl}
 use mathlib.Core.List.{List, [], _∷_, _++_, map}
 use native.Mathlib.Omega.{arith}
@@ -26,4 +26,5 @@ module _ (n : ℕ) where
   within-nearer [] e = refl
   within-nearer (t ∷ ts) e =
       let h = and-parts (leb (t .wait) n) (within n ts) e in
-      and-from (leb (t .wait - 1) n) (within n (map nearer ts)) (le-leb (t .wait - 1) n (omega (arith, leb-true (t .wait) n (h .0)))) (within-nearer ts (h .1))
+      let less : t .wait - 1 ≤ n = omega (arith, leb-true (t .wait) n (h .0)) in
+      and-from (leb (t .wait - 1) n) (within n (map nearer ts)) (le-leb (t .wait - 1) n less) (within-nearer ts (h .1))

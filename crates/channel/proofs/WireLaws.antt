@@ -1,9 +1,7 @@
 -- A wire keeps the laws of a channel.
-use mathlib.Core.Bool.{true, false, not, cond}
+use mathlib.Core.Bool.{true, false, not}
 use mathlib.Core.Path.{_≡_, refl, ap}
-use mathlib.Core.List.{List, [], _∷_, _++_}
-use lib.Dec.{ltb}
-use lib.ListN.{length}
+use mathlib.Core.List.{List, [], _∷_}
 use Rattle.std.proofs.shelf.Tests.{cond-true, cond-false, true≢false, not-true}
 use Rattle.channel.specs.Calls.{Lawful}
 use Rattle.ring.specs.Queue.{empty, tail}

@@ -57,6 +57,6 @@ pub impl Channel for Wire as WireChannel {
     }
 
     fn is_idle(&self) -> bool {
-        self.items.len() == 0
+        self.items.is_empty()
     }
 }

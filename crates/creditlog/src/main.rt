@@ -1,14 +1,14 @@
 // creditlog: a log in words, or the totals of its ports.
 
+use listing::part::list_part;
 use reader::reader::Reader;
-use report::listing::list_part;
-use report::summary::write_summary;
-use report::totals::Totals;
 use std::env;
 use std::error::AnyError;
 use std::fs;
 use std::io::Read;
 use std::io::Write;
+use summary::text::write_summary;
+use summary::totals::Totals;
 
 const USAGE: &str = "usage: creditlog [--summary] [FILE]";
 

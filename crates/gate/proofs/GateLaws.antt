@@ -1,6 +1,6 @@
 -- A gate keeps the laws of a channel.
 use mathlib.Core.Bool.{Bool, true, false, cond}
-use mathlib.Core.Path.{_≡_, refl}
+use mathlib.Core.Path.{refl}
 use mathlib.Core.List.{[], _∷_}
 use Rattle.std.proofs.shelf.Tests.{false≢true, true≢false}
 use Rattle.symbol.specs.Symbols.{noted-lost}

@@ -1,3 +1,2 @@
 pub mod Losses
-pub mod Idle
 pub mod Links

@@ -1,6 +1,6 @@
 -- The banks of one link and of three: wires, and delay rings of 5 in the middle, all under scripted loss.
 use Prim.Native.Nat.{ℕ}
-use mathlib.Core.List.{List, []}
+use mathlib.Core.List.{List, [], _∷_, map}
 use Rattle.symbol.specs.declared.Item.{Item}
 use Rattle.channel.specs.Calls.{Calls}
 use Rattle.channel.specs.Delay.{Delayed, delay-ring}
@@ -12,9 +12,9 @@ use Rattle.loss.specs.Loss.{Lossy, lossy, started}
 use Rattle.loss.specs.States.{lossy-state}
 use Rattle.loss.specs.declared.ScriptedLoss.{ScriptedLoss}
 use Rattle.loss.specs.declared.script.LossEntry.{LossEntry}
-use Rattle.bank.specs.Bank.{BankCalls}
+use Rattle.bank.specs.Bank.{BankCalls, count, letter-at}
 use Rattle.bank.specs.Banks.{one, pair}
-use Rattle.bank.specs.States.{one-state, pair-state}
+use Rattle.bank.specs.States.{both, one-state, pair-state}
 use Rattle.bank.specs.declared.one.One.{One}
 use Rattle.bank.specs.declared.pair.Pair.{Pair}
 
@@ -24,6 +24,9 @@ link l m = pair (one l m) (one l m)
 
 abbrev pub link-state : {C M : Type 0} → (C → M) → Pair (One C) (One C) → M × M
 link-state f = pair-state (one-state f) (one-state f)
+
+abbrev pub three-state : {P Q R L M N : Type 0} → (P → L) → (Q → M) → (R → N) → Pair P (Pair Q R) → L × (M × N)
+three-state f g h = pair-state f (pair-state g h)
 
 abbrev pub WireStates : Type 0
 WireStates = Lossy (List Item) × Lossy (List Item)
@@ -63,8 +66,15 @@ lossy-rings east west =
     (started (record { waiting = []; delay = 5 }) east, started (record { waiting = []; delay = 5 }) west)
 
 abbrev pub three-links-state : ThreeLinks → WireStates × (RingStates × WireStates)
-three-links-state = pair-state one-link-state (pair-state ring-link-state one-link-state)
+three-links-state = three-state one-link-state ring-link-state one-link-state
 
 -- idle links under the scripts of the directions
+abbrev pub lossy-one-link : (ℕ → List LossEntry) → WireStates
+lossy-one-link s = lossy-wires (s 0) (s 1)
+
 abbrev pub lossy-three-links : (ℕ → List LossEntry) → WireStates × (RingStates × WireStates)
 lossy-three-links s = (lossy-wires (s 0) (s 1), (lossy-rings (s 2) (s 3), lossy-wires (s 4) (s 5)))
+
+-- the count of a bank, and the letters at its first six numbers
+abbrev pub six-letters : {B : Type 0} → BankCalls B → B → ℕ × List ℕ
+six-letters m b = both (count m b) (map (letter-at m b) (0 ∷ 1 ∷ 2 ∷ 3 ∷ 4 ∷ 5 ∷ []))

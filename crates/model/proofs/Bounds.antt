@@ -22,9 +22,9 @@ use Rattle.symbol.specs.declared.Symbol.{Symbol}
 use Rattle.symbol.specs.declared.Symbol.the-variants as symbol
 use Rattle.channel.specs.Calls.{handed}
 use Rattle.bank.specs.Bank.{BankCalls}
-use Rattle.model.specs.Port.{Port, Turn, new-port, logged-in, with-buffers, is-full, frame-held, credit-back}
-use Rattle.model.specs.Port.{received, after-send, unsent, emptied, sent-on, lent-out, handed-out, among, released}
-use Rattle.model.specs.Port.{injected-at, next-frame, freed-of}
+use Rattle.port.specs.Port.{Port, Turn, new-port, logged-in, with-buffers, is-full, frame-held, credit-back, received}
+use Rattle.port.specs.Port.{after-send, unsent, emptied, sent-on, lent-out, handed-out, among, released, injected-at}
+use Rattle.port.specs.Port.{next-frame, freed-of}
 use Rattle.model.specs.Chain.{sent, Chain, behind, facing, port-of, with-port, with-bank, is-end, takes-item, takes}
 use Rattle.model.specs.Chain.{drawn, sends-symbol, sends, each-port, ticked, stepped, last-tick, outbox-places, sound}
 use Rattle.model.proofs.Links.{takes-still, sends-still, takes-links, sends-links, each-links, each-tick}

@@ -12,9 +12,9 @@ use Rattle.symbol.specs.declared.Frame.{Frame}
 use Rattle.log.specs.declared.event.Event.the-variants as event
 use Rattle.log.specs.declared.event.FrameKind.the-variants.{Freed, Injected, Collected}
 use Rattle.bank.specs.Bank.{BankCalls, LawfulBank}
+use Rattle.port.specs.Port.{next-frame, freed-of, Port, Buffers, Turn, and-then, with-buffers, lent-out, injected-at}
+use Rattle.port.specs.Port.{among}
 use Rattle.model.specs.declared.End.{End}
-use Rattle.model.specs.Port.{next-frame, freed-of, Port, Buffers, Turn, and-then, with-buffers, lent-out, injected-at}
-use Rattle.model.specs.Port.{among}
 use Rattle.model.specs.Chain.{injected, Chain, facing, port-of, with-port, end-port, takes, sends, each-port, ticked}
 use Rattle.model.specs.Chain.{stepped, collects-by, released-at, on}
 use Rattle.model.specs.Run.{Log}

@@ -3,8 +3,8 @@ use Prim.Native.Nat.{ℕ, zero, suc}
 use mathlib.Core.Path.{refl}
 use Rattle.bank.specs.Bank.{BankCalls}
 use Rattle.links.specs.Links.{one-link, three-links}
+use Rattle.port.specs.Port.{Turn}
 use Rattle.model.specs.declared.End.the-variants.{West}
-use Rattle.model.specs.Port.{Turn}
 use Rattle.model.specs.Chain.{Chain}
 use Rattle.model.specs.Run.{Run, is-running, runs, new, login, start, inject, step}
 use Rattle.model.specs.Worked.{room, injecting, stepping, one-lost, some-lost, over-three, LossTable, SixSteps}

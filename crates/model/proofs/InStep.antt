@@ -9,7 +9,7 @@ use lib.Dec.{eqb, ltb}
 use lib.Pow.{pow-pos}
 use Rattle.std.proofs.shelf.Tests.{and-parts, eqb-true}
 use Rattle.std.specs.shelf.Lists.{All}
-use Rattle.model.specs.Port.{Outflow, lost-of}
+use Rattle.port.specs.Port.{Outflow, lost-of}
 use Rattle.model.specs.Figures.{Role, counted, mark, other, one-counted, counted-in}
 use Rattle.model.specs.Stretches.{Arrived, WasLost, lost-among, lost-in, good-among}
 use Rattle.model.specs.WholeParts.{WholePart}

@@ -24,10 +24,10 @@ use Rattle.log.specs.declared.event.Event.the-variants as event
 use Rattle.log.specs.declared.event.FrameKind.the-variants.{Freed}
 use Rattle.log.specs.declared.event.ItemKind.the-variants.{Put, Got}
 use Rattle.bank.specs.Bank.{BankCalls, LawfulBank}
+use Rattle.port.specs.Port.{Port, Outbox, Turn, new-port, with-buffers, emptied, unsent, frame-of, sent-on, received}
+use Rattle.port.specs.Port.{has-sent, after-send, frame-held, credit-back, frames-found, rrdys-found}
+use Rattle.port.specs.Port.{frames-corrected, rrdys-corrected}
 use Rattle.model.specs.declared.End.{End}
-use Rattle.model.specs.Port.{Port, Outbox, Turn, new-port, with-buffers, emptied, unsent, frame-of, sent-on, received}
-use Rattle.model.specs.Port.{has-sent, after-send, frame-held, credit-back, frames-found, rrdys-found}
-use Rattle.model.specs.Port.{frames-corrected, rrdys-corrected}
 use Rattle.model.specs.Chain.{Chain, facing, behind, port-of, with-ports, with-port, with-bank, end-port, takes-item}
 use Rattle.model.specs.Chain.{takes, is-end, source, sends-symbol, sends, symbols, on, sound}
 use Rattle.model.specs.Run.{Log}

@@ -14,8 +14,8 @@ use Rattle.log.specs.declared.event.Event.the-variants as event
 use Rattle.log.specs.declared.event.ItemKind.the-variants.{Got}
 use Rattle.reader.specs.Reading.{WellFormed}
 use Rattle.bank.specs.Bank.{BankCalls, LawfulBank}
+use Rattle.port.specs.Port.{Turn, no-act}
 use Rattle.model.specs.declared.End.{End}
-use Rattle.model.specs.Port.{Turn, no-act}
 use Rattle.model.specs.Chain.{Chain, facing, port-of, end-port, port-at-end, opposite, on, logins, injects, steps}
 use Rattle.model.specs.Chain.{collects, releases}
 use Rattle.model.specs.Run.{Log, Phase, Moving, Run, is-cabled, is-running, is-draining, login, start, inject, step}

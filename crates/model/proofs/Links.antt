@@ -10,7 +10,7 @@ use Rattle.symbol.specs.declared.Symbol.{Symbol}
 use Rattle.symbol.specs.declared.Symbol.the-variants as symbol
 use Rattle.channel.specs.Calls.{handed}
 use Rattle.bank.specs.Bank.{BankCalls}
-use Rattle.model.specs.Port.{Turn, after-send}
+use Rattle.port.specs.Port.{Turn, after-send}
 use Rattle.model.specs.Chain.{sent, Chain, each-port, takes, takes-item, sends, sends-symbol, drawn, is-end}
 use Rattle.model.specs.Chain.{with-port, with-bank, port-of, facing, sound}
 

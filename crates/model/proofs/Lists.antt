@@ -10,7 +10,7 @@ use Rattle.std.proofs.shelf.Tests.{false≢true}
 use Rattle.std.specs.declared.option.Option.{Option}
 use Rattle.std.specs.declared.option.Option.the-variants.{Some, None}
 use Rattle.ring.specs.Queue.{head?, tail}
-use Rattle.model.specs.Port.{among, without}
+use Rattle.port.specs.Port.{among, without}
 
 abbrev IsSome : {A : Type 0} → Option A → Type 0
 IsSome None = ⊥

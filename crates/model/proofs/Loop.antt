@@ -17,9 +17,9 @@ use Rattle.symbol.specs.declared.Symbol.the-variants as symbol
 use Rattle.log.specs.declared.event.Event.the-variants as event
 use Rattle.log.specs.declared.event.FrameKind.the-variants.{Freed}
 use Rattle.log.specs.declared.event.ItemKind.the-variants.{Put, Got, Lost as Missed}
-use Rattle.model.specs.Port.{Port, Outflow, lost-of, missed, arrived, received, receive-events, correction, has-sent}
-use Rattle.model.specs.Port.{frame-held, is-full, credit-back, frames-found, rrdys-found, frames-corrected}
-use Rattle.model.specs.Port.{rrdys-corrected, frames-made-good, rrdys-made-good, with-buffers, emptied}
+use Rattle.port.specs.Port.{Port, Outflow, lost-of, missed, arrived, received, receive-events, correction, has-sent}
+use Rattle.port.specs.Port.{frame-held, is-full, credit-back, frames-found, rrdys-found, frames-corrected}
+use Rattle.port.specs.Port.{rrdys-corrected, frames-made-good, rrdys-made-good, with-buffers, emptied}
 use Rattle.model.specs.Run.{Log}
 use Rattle.model.specs.Figures.{Stream, Frames, RRdys, Role, counted, role, roles, counted-in, one-counted, how-many}
 use Rattle.model.specs.Stretches.{Passage, Arrived, last-good}

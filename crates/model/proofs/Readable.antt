@@ -29,10 +29,10 @@ use Rattle.log.specs.declared.event.ItemKind.{ItemKind}
 use Rattle.log.specs.declared.event.ItemKind.the-variants.{Put, Got, Lost as Missed}
 use Rattle.reader.specs.Reading.{WellFormed}
 use Rattle.bank.specs.Bank.{BankCalls, LawfulBank}
-use Rattle.model.specs.Port.{Port, Turn, and-then, logged-in, lost-of, frames-found, rrdys-found, correction, is-full}
-use Rattle.model.specs.Port.{frame-held, credit-back, received, receive-events, frame-of, choice, after-send, emptied}
-use Rattle.model.specs.Port.{sent-on, unsent, with-buffers, lent-out, handed-out, among, without, freed-of, released}
-use Rattle.model.specs.Port.{next-frame, injected-at}
+use Rattle.port.specs.Port.{Port, Turn, and-then, logged-in, lost-of, frames-found, rrdys-found, correction, is-full}
+use Rattle.port.specs.Port.{frame-held, credit-back, received, receive-events, frame-of, choice, after-send, emptied}
+use Rattle.port.specs.Port.{sent-on, unsent, with-buffers, lent-out, handed-out, among, without, freed-of, released}
+use Rattle.port.specs.Port.{next-frame, injected-at}
 use Rattle.model.specs.Chain.{Chain, facing, behind, is-end, freed-events, sound, symbols, port-of, with-port}
 use Rattle.model.specs.Chain.{with-bank, on, each-port, takes-item, takes, source, drawn, sends-symbol, sends, ticked}
 use Rattle.model.specs.Chain.{stepped, last-tick}

@@ -16,7 +16,7 @@ use Rattle.log.specs.declared.event.Event.{Event}
 use Rattle.log.specs.declared.event.Event.the-variants as event
 use Rattle.log.specs.declared.event.FrameKind.the-variants.{Freed}
 use Rattle.log.specs.declared.event.ItemKind.the-variants.{Put, Got, Lost as Missed}
-use Rattle.model.specs.Port.{Port, frames-found, rrdys-found}
+use Rattle.port.specs.Port.{Port, frames-found, rrdys-found}
 use Rattle.model.specs.Run.{Log}
 use Rattle.model.specs.Figures.{is-at, records}
 use Rattle.model.specs.Stretches.{Passage, Stretches}

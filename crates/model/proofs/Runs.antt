@@ -22,12 +22,12 @@ use Rattle.log.specs.declared.event.Event.the-variants as event
 use Rattle.log.specs.declared.event.FrameKind.{FrameKind}
 use Rattle.log.specs.declared.event.FrameKind.the-variants.{Freed, Injected, Collected}
 use Rattle.bank.specs.Bank.{BankCalls, LawfulBank, count}
+use Rattle.port.specs.Port.{freed-of, next-frame, Port, Turn, no-act, among, handed-out, released, injected-at}
+use Rattle.port.specs.Port.{logged-in, new-port}
 use Rattle.model.specs.declared.End.{End}
 use Rattle.model.specs.declared.End.the-variants.{West, East}
 use Rattle.model.specs.declared.Refusal.{Refusal}
 use Rattle.model.specs.declared.Refusal.the-variants as refusal
-use Rattle.model.specs.Port.{freed-of, next-frame, Port, Turn, no-act, among, handed-out, released, injected-at}
-use Rattle.model.specs.Port.{logged-in, new-port}
 use Rattle.model.specs.Chain.{injected, call-bytes, last-tick, Chain, facing, port-of, with-port, end-port, all-idle}
 use Rattle.model.specs.Chain.{cabled-links, cabled, stepped, from-oldest, collectable, collects-by, collects}
 use Rattle.model.specs.Chain.{released-at, logs-in, logins, step-refusal, inject-refusal, release-refusal}

@@ -21,7 +21,7 @@ use Rattle.log.specs.declared.event.FrameKind.the-variants.{Freed}
 use Rattle.log.specs.declared.event.ItemKind.the-variants.{Put, Got}
 use Rattle.channel.specs.Calls.{handed}
 use Rattle.bank.specs.Bank.{BankCalls}
-use Rattle.model.specs.Port.{Turn, receive-events, correction, after-send}
+use Rattle.port.specs.Port.{Turn, receive-events, correction, after-send}
 use Rattle.model.specs.Chain.{Chain, facing, behind, port-of, with-port, with-bank, is-end, freed-events, each-port}
 use Rattle.model.specs.Chain.{takes-item, takes, sent, sends-symbol, sends, ticked, stepped, step-bytes}
 use Rattle.model.specs.Run.{Log}

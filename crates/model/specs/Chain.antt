@@ -20,13 +20,12 @@ use Rattle.log.specs.declared.event.FrameKind.the-variants.{Freed, Injected, Co
 use Rattle.log.specs.declared.event.ItemKind.the-variants.{Put}
 use Rattle.channel.specs.Calls.{handed, idle}
 use Rattle.bank.specs.Bank.{BankCalls, count}
+use Rattle.port.specs.Port.{Port, Turn, no-act, and-then, new-port, logged-in, received, correction, receive-events}
+use Rattle.port.specs.Port.{choice, after-send, sent-on, unsent, next-frame, injected-at, handed-out, among, released}
 use Rattle.model.specs.declared.End.{End}
 use Rattle.model.specs.declared.End.the-variants.{West, East}
 use Rattle.model.specs.declared.Refusal.{Refusal}
 use Rattle.model.specs.declared.Refusal.the-variants as refusal
-use Rattle.model.specs.Port.{Port, Turn, no-act, and-then, new-port, logged-in, received, correction, receive-events}
-use Rattle.model.specs.Port.{choice, after-send, sent-on, unsent, next-frame, injected-at, handed-out, among}
-use Rattle.model.specs.Port.{released}
 
 pub record Chain (B : Type 0) : Type 0 where
   pub bank : B

@@ -1,5 +1,4 @@
 pub mod Refusals
-pub mod Port
 pub mod Chain
 pub mod Run
 pub mod Figures

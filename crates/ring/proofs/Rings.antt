@@ -62,4 +62,7 @@ module _ {T : Type 0} {n : ℕ} (r : Ring T n) (k at : ℕ) (x : T) (l : k < r .
       ∙ map-over-more f old (contents r) k x (omega arith) inv (is ∙ sym (ring-at r k at x l e))
 
 pub mapped-all : {T : Type 0} (f : T → T) (k : ℕ) (old : List T) → length old ≤ k → map f (take k old) ++ drop k old ≡ map f old
-mapped-all f k old l = ap (λ xs. map f xs ++ drop k old) (take-all k old l) ∙ ap (λ ys. map f old ++ ys) (drop-all k old l) ∙ append-nil (map f old)
+mapped-all f k old l =
+    ap (λ xs. map f xs ++ drop k old) (take-all k old l)
+    ∙ ap (λ ys. map f old ++ ys) (drop-all k old l)
+    ∙ append-nil (map f old)

@@ -1,13 +1,13 @@
 -- A window of a list that is read as a ring, by its places.
 use Prim.Native.Nat.{ℕ, _+_, _-_, _<_, _≤_}
-use mathlib.Core.Bool.{cond}
 use mathlib.Core.Logic.{_≢_, ⊎-elim}
 use mathlib.Core.Path.{_≡_, refl, sym, ap, _∙_}
 use mathlib.Core.List.{List, [], _∷_, _++_}
 use native.Mathlib.Omega.{arith}
 use lib.Dec.{ltb}
-use lib.ListN.{length, take, drop, set, getD}
-use Rattle.std.proofs.shelf.Lists.{length-take, length-drop, length-append, length-set, getD-take, getD-drop, getD-append-left, getD-append-right, getD-set-same, getD-set-other, same-lists, take-all, take-take, take-more-set}
+use lib.ListN.{length, drop, set, getD}
+use Rattle.std.proofs.shelf.Lists.{getD-take, getD-drop, getD-append-left, getD-append-right, getD-set-same, getD-set-other}
+use Rattle.std.proofs.shelf.Lists.{length-take, length-drop, length-append, length-set, same-lists, take-all, take-take, take-more-set}
 use Rattle.std.proofs.shelf.Tests.{cases-lt, cases-eq, lt-ltb, le-ltb, cond-true, cond-false}
 use Rattle.std.proofs.shelf.Ways.{tells}
 use Rattle.ring.specs.Contents.{window, place}

@@ -1,6 +1,6 @@
 // A ring as a queue.
 ghost use Rattle.ring.specs.Contents.{contents, place};
-ghost use Rattle.ring.specs.Queue.{head?, pushed, tail};
+ghost use Rattle.ring.specs.Queue.{empty, head?, pushed, tail};
 ghost use Rattle.std.specs.shelf.Maps.{nth};
 ghost use lib.Dec.{ltb};
 ghost use lib.ListN.{length};
@@ -18,6 +18,12 @@ impl<T: Copy, const N: usize> Ring<T, N> {
             head: 0,
             len: 0,
         }
+    }
+
+    pub fn is_empty(&self) -> bool
+        ensures { λ r. ⌜ r ≡ empty (contents (now (self .entry))) ⌝ }
+    {
+        self.len() == 0
     }
 
     // The place of the i-th value.

@@ -68,6 +68,6 @@ pub impl Channel for DelayRing as DelayRingChannel {
     }
 
     fn is_idle(&self) -> bool {
-        self.waiting.len() == 0
+        self.waiting.is_empty()
     }
 }

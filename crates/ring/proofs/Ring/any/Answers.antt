@@ -14,10 +14,12 @@ returns g c =
 
 pub returns-then-passes : need.returns-then-passes
 returns-then-passes g c =
-    let more = any-more (c .args .self .now) (c .loop-i .i) (c .place-at .result) (c .index-self-at .result) (c .loop-i-test .taken) (c .place-at .ensures) in
-    sym (more (g .Q·Test .passes (c .args .test .now)) _ (c .if-passes .ensures tt)) ∙ c .loop-i .inv
+    let here = any-more (c .args .self .now) (c .loop-i .i) (c .place-at .result) (c .index-self-at .result) in
+    sym (here (c .loop-i-test .taken) (c .place-at .ensures) (g .Q·Test .passes (c .args .test .now)) _ (c .if-passes .ensures tt))
+    ∙ c .loop-i .inv
 
 pub loop-i-again : need.loop-i-again
 loop-i-again g c =
-    let more = any-more (c .args .self .now) (c .loop-i .i) (c .place-at .result) (c .index-self-at .result) (c .loop-i-test .taken) (c .place-at .ensures) in
-    sym (more (g .Q·Test .passes (c .args .test .now)) _ (c .if-passes .ensures tt)) ∙ c .loop-i .inv
+    let here = any-more (c .args .self .now) (c .loop-i .i) (c .place-at .result) (c .index-self-at .result) in
+    sym (here (c .loop-i-test .taken) (c .place-at .ensures) (g .Q·Test .passes (c .args .test .now)) _ (c .if-passes .ensures tt))
+    ∙ c .loop-i .inv

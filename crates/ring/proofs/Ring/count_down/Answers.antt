@@ -12,7 +12,9 @@ returns g c =
 pub loop-i-again : need.loop-i-again
 loop-i-again g c =
     let old = c .args .self .now in
-    let more = mapped-more (c .loop-i .self) (c .loop-i .i) (c .place-at .result) (c .index-self-at .result) (omega arith) (c .place-at .ensures) in (
-      more (g .T·Countdown .counted) (contents old) (c .counted-down .result) (ring-length old ∙ sym (c .loop-i .inv .1)) (c .loop-i .inv .0) (c .index-self-at .is) (c .counted-down .ensures),
+    let more = mapped-more (c .loop-i .self) (c .loop-i .i) (c .place-at .result) (c .index-self-at .result) (omega arith) in
+    let size = ring-length old ∙ sym (c .loop-i .inv .1) in (
+      more (c .place-at .ensures) (g .T·Countdown .counted) (contents old) (c .counted-down .result) size (c .loop-i .inv .0)
+          (c .index-self-at .is) (c .counted-down .ensures),
       c .loop-i .inv .1,
     )

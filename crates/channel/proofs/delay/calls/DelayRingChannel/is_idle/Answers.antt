@@ -1,8 +1,7 @@
-use mathlib.Core.Path.{ap, _∙_}
-use lib.Dec.{eqb}
+use mathlib.Core.Path.{sym, _∙_}
 use Rattle.ring.specs.Contents.{contents}
-use Rattle.channel.proofs.Queues.{map-idle}
+use Rattle.channel.proofs.Queues.{map-empty}
 use Rattle.channel.proofs.delay.calls.DelayRingChannel.is_idle.Needs as need
 
 pub returns : need.returns
-returns c = ap (λ n. eqb n 0) (c .len .ensures) ∙ map-idle _ (contents (c .args .self .now .waiting))
+returns c = c .is-empty .ensures ∙ sym (map-empty _ (contents (c .args .self .now .waiting)))

@@ -1,0 +1,3 @@
+pub mod Port
+pub mod View
+pub mod Figures
