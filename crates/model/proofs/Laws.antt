@@ -36,7 +36,8 @@ use Rattle.model.proofs.Records.{AllMeetRoom, room-at}
 use Rattle.model.proofs.Places.{facing-back, facing-below, end-below}
 use Rattle.model.proofs.Kept.{Invariant}
 use Rattle.model.proofs.Bounds.{Bounded}
-use Rattle.model.proofs.Runs.{run-invariant, run-bounded, run-ticks, run-fine}
+use Rattle.model.proofs.Runs.{run-invariant, run-bounded, run-ticks}
+use Rattle.model.proofs.ReadBack.{run-fine}
 use Rattle.model.proofs.Ways.{times-often, up-to-in, up-to-out, how-often, places-are, collected-in-order, hop-below}
 
 -- a figure that has not come to the largest is exact

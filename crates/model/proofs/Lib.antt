@@ -14,6 +14,7 @@ pub mod Bounds
 pub mod Sizes
 pub mod Readable
 pub mod Runs
+pub mod ReadBack
 pub mod Ways
 pub mod Laws
 pub mod Computed

@@ -19,13 +19,11 @@ use Rattle.ring.specs.Queue.{head?, tail, empty}
 use Rattle.symbol.specs.declared.Frame.{Frame}
 use Rattle.symbol.specs.declared.Item.{Item}
 use Rattle.log.specs.declared.event.Event.the-variants as event
-use Rattle.log.specs.declared.event.FrameKind.{FrameKind}
-use Rattle.log.specs.declared.event.FrameKind.the-variants.{Freed, Injected, Collected}
+use Rattle.log.specs.declared.event.FrameKind.the-variants.{Freed}
 use Rattle.bank.specs.Bank.{BankCalls, LawfulBank, count}
-use Rattle.port.specs.Port.{freed-of, next-frame, Port, Turn, no-act, among, handed-out, released, injected-at}
-use Rattle.port.specs.Port.{logged-in, new-port}
+use Rattle.port.specs.Port.{freed-of, Port, Turn, no-act, among, handed-out, released, injected-at, logged-in}
+use Rattle.port.specs.Port.{new-port}
 use Rattle.model.specs.declared.End.{End}
-use Rattle.model.specs.declared.End.the-variants.{West, East}
 use Rattle.model.specs.declared.Refusal.{Refusal}
 use Rattle.model.specs.declared.Refusal.the-variants as refusal
 use Rattle.model.specs.Chain.{injected, call-bytes, last-tick, Chain, facing, port-of, with-port, end-port, all-idle}
@@ -47,9 +45,6 @@ use Rattle.model.proofs.Calls.{step-kept, inject-kept, collect-kept, release-k
 use Rattle.model.proofs.Bounds.{stepped-tick, Within, Bounded, new-port-within, fresh-within, handed-within}
 use Rattle.model.proofs.Bounds.{released-within, injected-within, with-within, step-bounded}
 use Rattle.model.proofs.Sizes.{total-append, step-ticks}
-use Rattle.model.proofs.Readable.{FineNumber, FineSymbols, FinePort, FineOldest, Fine, FineTurn, FineRun, fresh-fine}
-use Rattle.model.proofs.Readable.{well-frame, fine-port, fine-more, oldest-fine, handed-out-fine, released-fine}
-use Rattle.model.proofs.Readable.{next-fine, injected-fine, number-found, step-fine}
 
 -- the two ports of a link after a login, or before any
 pub record LoggedIn (s r : Port) : Type 0 where
@@ -209,7 +204,7 @@ module _ {B : Type 0} (M : BankCalls B) (law : (b : B) → LawfulBank M b) where
   no-cabling : (b : B) → Cabling b 0
   no-cabling b = record { few = omega arith; idle = λ d z. absurd (omega arith) }
 
-  cabling : (b : B) → Cabling b (cabled-links M b)
+  pub cabling : (b : B) → Cabling b (cabled-links M b)
   cabling b = go (eqb (count M b % 2) 0) (leb (count M b) 16) (all-idle M b (count M b)) refl refl
     where
       go : (t u v : Bool) → leb (count M b) 16 ≡ u → all-idle M b (count M b) ≡ v
@@ -257,11 +252,11 @@ module _ {B : Type 0} (M : BankCalls B) (law : (b : B) → LawfulBank M b) where
   unless-kept (Some e) c t l h f = subst (Invariant M c) (sym (append-nil l)) h
 
   -- a test that refuses has not
-  passed : (t : Bool) (r : Refusal) (o : Option Refusal) → cond t (Some r) o ≡ None → (t ≡ false) × (o ≡ None)
+  pub passed : (t : Bool) (r : Refusal) (o : Option Refusal) → cond t (Some r) o ≡ None → (t ≡ false) × (o ≡ None)
   passed true r o e = absurd (none-some (sym e))
   passed false r o e = (refl, e)
 
-  some-links : (c : Chain B) → eqb (c .links) 0 ≡ false → 0 < c .links
+  pub some-links : (c : Chain B) → eqb (c .links) 0 ≡ false → 0 < c .links
   some-links c e = let n : c .links ≢ 0 = eqb-false (c .links) 0 e in omega arith
 
   no-links : (c : Chain B) (l : Log) → c .links ≡ 0 → AllMeetRoom (λ p. port-of c p .buffers .all) [] l
@@ -307,7 +302,7 @@ module _ {B : Type 0} (M : BankCalls B) (law : (b : B) → LawfulBank M b) where
       go false = refl
 
   -- a release that is not refused is of a number handed out
-  released-out : (c : Chain B) (e : End) (k room : ℕ) → release-refusal M c e k room ≡ None
+  pub released-out : (c : Chain B) (e : End) (k room : ℕ) → release-refusal M c e k room ≡ None
       → among k (port-of c (end-port c e) .buffers .out) ≡ true
   released-out c e k room z = go (among k (port-of c (end-port c e) .buffers .out)) (ltb room call-bytes) z
     where
@@ -362,7 +357,7 @@ module _ {B : Type 0} (M : BankCalls B) (law : (b : B) → LawfulBank M b) where
       (handed-within (c .tick) (c .tick) (port-of c (end-port c e)) (h .ports (end-port c e)))
   collect-bounded c e (Err r) h = h
 
-  step-early : (c : Chain B) (room : ℕ) → Bounded c → step-refusal M c room ≡ None → c .tick < last-tick
+  pub step-early : (c : Chain B) (room : ℕ) → Bounded c → step-refusal M c room ≡ None → c .tick < last-tick
   step-early c room h z =
       let n : c .tick ≢ last-tick =
       eqb-false (c .tick) last-tick
@@ -371,7 +366,7 @@ module _ {B : Type 0} (M : BankCalls B) (law : (b : B) → LawfulBank M b) where
       omega (arith, h .tick)
 
   -- what a login that is not refused has asked
-  login-fits : (c : Chain B) (k x y m n : ℕ) → login-refusal M c k x y m n ≡ None → (x ≤ 32) × (y ≤ 32) × (n ≤ 15)
+  pub login-fits : (c : Chain B) (k x y m n : ℕ) → login-refusal M c k x y m n ≡ None → (x ≤ 32) × (y ≤ 32) × (n ≤ 15)
   login-fits c k x y m n z =
       let buffers-asked = passed (leb (c .links) k) refusal.NoLinks _ z .1 in
       let a = passed (ltb x 1 || (ltb 32 x || (ltb y 1 || ltb 32 y))) refusal.BadBuffers _ buffers-asked in
@@ -468,102 +463,3 @@ module _ {B : Type 0} (M : BankCalls B) (law : (b : B) → LawfulBank M b) where
       unless-ticks (release-refusal M c e k room) c (released-at M c e k) l (run-ticks r)
       (λ z. omega (arith, run-ticks r))
   run-ticks (drain r) = run-ticks r
-
-  -- every record of a run is well-formed
-  same-run : (c : Chain B) (l : Log) → FineRun M c l → FineRun M c (l ++ [])
-  same-run c l h = subst (FineRun M c) (sym (append-nil l)) h
-
-  unless-fine : (r : Option Refusal) (c : Chain B) (t : Turn (Chain B)) (l : Log) → FineRun M c l
-      → (r ≡ None → FineTurn M t) → FineRun M (unless-refused r c t .state) (l ++ unless-refused r c t .events)
-  unless-fine None c t l h f = fine-more M c l t h (f refl)
-  unless-fine (Some e) c t l h f = same-run c l h
-
-  new-ports-fine : (n q : ℕ) → FinePort (getD (replicate n new-port) q new-port)
-  new-ports-fine zero q = fresh-fine 1 1 0 (omega arith)
-  new-ports-fine (suc n) zero = fresh-fine 1 1 0 (omega arith)
-  new-ports-fine (suc n) (suc q) = new-ports-fine n q
-
-  login-fine : (o : Option Refusal) (c : Chain B) (k x y n : ℕ) → Fine M c → (o ≡ None → n ≤ 15)
-      → Fine M (unless-refused o c (no-act (logs-in M c k x y n)) .state)
-  login-fine None c k x y n h f =
-      fine-port M (with-port c (2 * k) (logged-in x y n)) (2 * k + 1) (logged-in y x n)
-      (fine-port M c (2 * k) (logged-in x y n) h (fresh-fine x y n (f refl))) (fresh-fine y x n (f refl))
-  login-fine (Some e) c k x y n h f = h
-
-  -- an act at an end, with one record of a fine frame
-  end-fine : (c : Chain B) (e : End) (kind : FrameKind) (f : Frame) (s : Port) → 0 < c .links → Fine M c → FinePort s
-      → FineNumber (f .number)
-      → FineTurn M (record { state = with-port c (end-port c e) s; events = event.Frame kind (end-port c e) f ∷ [] })
-  end-fine c e kind f s some h z w = record {
-    state = fine-port M c (end-port c e) s h z;
-    events = (well-frame kind (end-port c e) f (omega (arith, h .links, end-below c e some)) w, tt);
-  }
-
-  collect-fine : (c : Chain B) (l : Log) (e : End) (room : ℕ) → FineRun M c l
-      → FineRun M (collects M c e room .state) (l ++ collects M c e room .events)
-  collect-fine c l e room h =
-      go (eqb (c .links) 0) (head? (port-of c (end-port c e) .buffers .waiting)) refl
-      (oldest-fine (port-of c (end-port c e) .buffers .waiting) (h .state .ports (end-port c e) .wait))
-    where
-      last : (f : Frame) (u : Bool) → eqb (c .links) 0 ≡ false → FineNumber (f .number)
-          → FineRun M (collects-by M c e (cond u (Err refusal.SheetFull) (Ok f)) .state)
-          (l ++ collects-by M c e (cond u (Err refusal.SheetFull) (Ok f)) .events)
-      last f true z w = same-run c l h
-      last f false z w =
-          fine-more M c l (collects-by M c e (Ok f)) h
-          (end-fine c e Collected f (handed-out (port-of c (end-port c e))) (some-links c z) (h .state)
-          (handed-out-fine (port-of c (end-port c e)) (h .state .ports (end-port c e))) w)
-
-      go : (t : Bool) (o : Option Frame) → eqb (c .links) 0 ≡ t → FineOldest o
-          → FineRun M (collects-by M c e (cond t (Err refusal.NoLinks) (from-oldest M o room)) .state)
-          (l ++ collects-by M c e (cond t (Err refusal.NoLinks) (from-oldest M o room)) .events)
-      go true o z w = same-run c l h
-      go false None z w = same-run c l h
-      go false (Some f) z w = last f (ltb room call-bytes) z w
-
-  release-fine : (c : Chain B) (e : End) (k room : ℕ) → Fine M c → release-refusal M c e k room ≡ None
-      → FineTurn M (released-at M c e k)
-  release-fine c e k room h z = record {
-    state =
-        fine-port M c (end-port c e) (released (port-of c (end-port c e)) k) h
-        (released-fine (port-of c (end-port c e)) (h .ports (end-port c e)) k);
-    events = (
-      well-frame Freed (end-port c e) (record { number = k }) (below e)
-          (number-found k (port-of c (end-port c e) .buffers .out) (released-out c e k room z)
-          (h .ports (end-port c e) .outside)),
-      tt,
-    );
-  }
-    where
-      below : (e : End) → end-port c e < 16
-      below West = omega arith
-      below East = omega (arith, h .links)
-
-  pub run-fine : {b : B} {ph : Phase} {c : Chain B} {l : Log} → Run M b ph c l → FineRun M c l
-  run-fine {b} new = record {
-    state = record {
-      links = cabling b .few;
-      ports = new-ports-fine 16;
-      channels = λ d z. subst FineSymbols (sym (cabling b .idle d z)) tt;
-    };
-    log = tt;
-  }
-  run-fine (login {c = c} k x y m n r) = record {
-    state = login-fine (login-refusal M c k x y m n) c k x y n (run-fine r .state) (λ z. login-fits c k x y m n z .2);
-    log = run-fine r .log;
-  }
-  run-fine (start r) = run-fine r
-  run-fine (step {c = c} {l = l} m room r) =
-      unless-fine (step-refusal M c room) c (stepped M c) l (run-fine r)
-      (λ z. step-fine M law c (step-early c room (run-bounded r) z) (run-fine r .state))
-  run-fine (inject {c = c} {l = l} e room r) =
-      unless-fine (inject-refusal M c e room) c (injected M c e) l (run-fine r)
-      (λ z. end-fine c e Injected (next-frame (port-of c (end-port c e))) (injected-at (port-of c (end-port c e)))
-      (some-links c (passed (eqb (c .links) 0) refusal.NoLinks _ z .0)) (run-fine r .state)
-      (injected-fine (port-of c (end-port c e)) (run-fine r .state .ports (end-port c e)))
-      (next-fine (port-of c (end-port c e)) (run-fine r .state .ports (end-port c e))))
-  run-fine (collect {c = c} {l = l} m e room r) = collect-fine c l e room (run-fine r)
-  run-fine (release {c = c} {l = l} m e k room r) =
-      unless-fine (release-refusal M c e k room) c (released-at M c e k) l (run-fine r)
-      (λ z. release-fine c e k room (run-fine r .state) z)
-  run-fine (drain r) = run-fine r
