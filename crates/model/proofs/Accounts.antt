@@ -1,6 +1,6 @@
 -- The records of one port, added up one by one: a device of the proofs, whose numbers are those of the figures.
-use mathlib.Core.List.{List, [], _∷_, _++_}
 use Prim.Native.Nat.{ℕ, _+_, _-_}
+use mathlib.Core.List.{List, [], _∷_, _++_}
 use Rattle.symbol.specs.declared.Frame.{Frame}
 use Rattle.symbol.specs.declared.Symbol.{Symbol}
 use Rattle.symbol.specs.declared.Symbol.the-variants as symbol
@@ -176,22 +176,25 @@ no-account = record {
 abbrev pub account : ℕ → Log → Account
 account p l = noted-all no-account (records p l)
 
--- an account with one more symbol taken
-abbrev pub with-taken : Account → Symbol → Account
-with-taken a s = record {
-  frames = a .frames;
-  rrdys = a .rrdys;
+-- an account with these tallies, one more symbol taken, and these takes
+abbrev pub with-tallies : Account → Tally → Tally → Symbol → List Passage → Account
+with-tallies a frames rrdys s ts = record {
+  frames = frames;
+  rrdys = rrdys;
   freed = a .freed;
   puts = a .puts;
   taken = a .taken ++ (s ∷ []);
-  takes = a .takes;
+  takes = ts;
   got = a .got;
   lost = a .lost;
   injected = a .injected;
   collected = a .collected;
 }
 
--- By a port's account: its buffers that hold a frame or owe an R_RDY, and its credit in use.
+abbrev pub with-taken : Account → Symbol → Account
+with-taken a s = with-tallies a (a .frames) (a .rrdys) s (a .takes)
+
+-- by a port's account: its buffers that hold a frame or owe an R_RDY, and its credit in use.
 abbrev pub buffers-in-use : Account → ℕ
 buffers-in-use a = (a .frames .got - a .freed) + (a .freed + a .frames .losses .good - a .rrdys .put)
 

@@ -1,19 +1,18 @@
 -- What a lawful bank does at any number, whether there is a channel or not.
 use Prim.Native.Nat.{ℕ, _≤_, _<_}
-use mathlib.Core.Path.{_≡_, refl, sym, ap, subst, _∙_}
-use mathlib.Core.Logic.{_⊎_, inl, inr, _≢_}
 use mathlib.Core.Bool.{Bool, true, false, cond}
 use mathlib.Core.List.{List, [], _∷_, _++_}
+use mathlib.Core.Logic.{_⊎_, inl, inr, _≢_}
+use mathlib.Core.Path.{_≡_, refl, sym, ap, subst, _∙_}
 use lib.ListN.{length}
 use Rattle.std.proofs.shelf.Tests.{cases-lt, false≢true, true≢false}
 use Rattle.ring.specs.Queue.{empty, tail}
+use Rattle.symbol.specs.Symbols.{noted-lost}
 use Rattle.symbol.specs.declared.Item.{Item}
 use Rattle.symbol.specs.declared.Symbol.{Symbol}
-use Rattle.symbol.specs.Symbols.{noted-lost}
-use Rattle.channel.specs.Calls.{Aged, none, kept, lost, Known, idle, received}
-use Rattle.bank.specs.Bank.{BankCalls, LawfulBank, absent, count, channel-at}
-use Rattle.model.specs.Chain.{sound}
-use Rattle.model.specs.Chain.{symbols}
+use Rattle.channel.specs.Calls.{Aged, none, kept, lost, Known, received}
+use Rattle.bank.specs.Bank.{BankCalls, LawfulBank, count, channel-at}
+use Rattle.model.specs.Chain.{sound, symbols}
 
 pub symbols-snoc : (xs : List Item) (i : Item) → symbols (xs ++ (i ∷ [])) ≡ symbols xs ++ (i .symbol ∷ [])
 symbols-snoc [] i = refl

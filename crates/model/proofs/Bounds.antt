@@ -1,35 +1,33 @@
 -- No figure of a run comes near the largest that its field holds: in a step each port takes one item and sends one
 -- symbol at most.
-use mathlib.Core.Logic.{_⊎_, inl, inr, _≢_}
-use lib.Seq.{getD-set-other}
-use Rattle.std.proofs.shelf.Tests.{cases-eq, cases-lt}
-use mathlib.Core.Path.{_≡_, refl, sym, ap, subst, _∙_}
+use Prim.Native.Nat.{ℕ, zero, suc, _+_, _-_, _*_, _≤_, _<_}
 use mathlib.Core.Bool.{Bool, true, false, cond}
-use mathlib.Core.List.{List, [], _∷_, _++_}
-use Prim.Native.Nat.{ℕ, zero, suc, _+_, _-_, _*_, _≤_, _<_, min}
+use mathlib.Core.List.{List, [], _∷_}
+use mathlib.Core.Logic.{_⊎_, inl, inr, _≢_}
+use mathlib.Core.Path.{_≡_, refl, sym, ap, subst, _∙_}
 use native.Mathlib.Omega.{arith}
 use lib.Dec.{eqb}
-use lib.ListN.{length, getD, set, replicate, length-append}
-use Rattle.ring.specs.Queue.{tail}
+use lib.ListN.{length, getD, set, length-append}
+use lib.Seq.{getD-set-other}
+use Rattle.std.proofs.shelf.Tests.{cases-eq, cases-lt}
 use Rattle.std.specs.declared.option.Option.{Option}
 use Rattle.std.specs.declared.option.Option.the-variants.{Some, None}
-use Rattle.symbol.specs.declared.Symbol.{Symbol}
+use Rattle.ring.specs.Queue.{tail}
+use Rattle.symbol.specs.declared.Frame.{Frame}
+use Rattle.symbol.specs.declared.Item.{Item}
+use Rattle.symbol.specs.declared.Mark.the-variants.{BbScS, BbScR}
 use Rattle.symbol.specs.declared.Note.{Note}
 use Rattle.symbol.specs.declared.Note.the-variants.{Sound, Lost}
-use Rattle.symbol.specs.declared.Item.{Item}
-use Rattle.bank.specs.Bank.{BankCalls, LawfulBank}
-use Rattle.port.specs.Port.{Port, Turn, new-port, logged-in, with-buffers, is-full, frame-held, credit-back}
-use Rattle.port.specs.Port.{received, has-sent, after-send, unsent, emptied, sent-on, lent-out, handed-out, among}
-use Rattle.port.specs.Port.{without, returned, released, injected-at, next-frame, freed-of}
-use Rattle.model.specs.Chain.{sent, Chain, behind, facing, port-of, with-port, with-bank, is-end, takes-item, takes}
-use Rattle.model.specs.Chain.{drawn, sends-symbol, sends, each-port, ticked, stepped}
-use Rattle.symbol.specs.declared.Frame.{Frame}
-use Rattle.model.specs.Chain.{last-tick, outbox-places}
-use Rattle.model.proofs.Links.{Still, takes-still, sends-still, takes-links, sends-links, each-links, each-tick}
+use Rattle.symbol.specs.declared.Symbol.{Symbol}
 use Rattle.symbol.specs.declared.Symbol.the-variants as symbol
-use Rattle.symbol.specs.declared.Mark.the-variants.{BbScS, BbScR}
 use Rattle.channel.specs.Calls.{handed}
-use Rattle.model.specs.Chain.{sound}
+use Rattle.bank.specs.Bank.{BankCalls}
+use Rattle.port.specs.Port.{Port, Turn, new-port, logged-in, with-buffers, is-full, frame-held, credit-back, received}
+use Rattle.port.specs.Port.{after-send, unsent, emptied, sent-on, lent-out, handed-out, among, released, injected-at}
+use Rattle.port.specs.Port.{next-frame, freed-of}
+use Rattle.model.specs.Chain.{sent, Chain, behind, facing, port-of, with-port, with-bank, is-end, takes-item, takes}
+use Rattle.model.specs.Chain.{drawn, sends-symbol, sends, each-port, ticked, stepped, last-tick, outbox-places, sound}
+use Rattle.model.proofs.Links.{takes-still, sends-still, takes-links, sends-links, each-links, each-tick}
 
 -- the numbers of a port that has taken at most `took` items and sent at most `sent` symbols
 pub record Within (took sent : ℕ) (s : Port) : Type 0 where
@@ -127,7 +125,7 @@ own-change P Q g change stay (x ∷ xs) (suc p) zero h = stay x h
 own-change P Q g change stay (x ∷ xs) (suc p) (suc q) h = own-change P Q g change stay xs p q h
 
 -- a table with one port set
-at-port : (P : Port → Type 0) (ps : List Port) (p q : ℕ) (s : Port) → P s → P (getD ps q new-port)
+pub at-port : (P : Port → Type 0) (ps : List Port) (p q : ℕ) (s : Port) → P s → P (getD ps q new-port)
     → P (getD (set ps p s) q new-port)
 at-port P [] p q s h k = k
 at-port P (x ∷ xs) zero zero s h k = h

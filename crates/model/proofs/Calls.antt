@@ -1,41 +1,35 @@
 -- Each call keeps what holds of a chain and the log of its run.
-use mathlib.Core.Path.{_≡_, refl, sym, ap, subst, transport, _∙_}
+use Prim.Native.Nat.{ℕ, zero, suc, _+_, _-_, _*_, _≤_, _<_}
 use mathlib.Core.Bool.{Bool, true}
 use mathlib.Core.List.{List, [], _∷_, _++_, append-assoc, append-nil}
-use Prim.Native.Nat.{ℕ, zero, suc, _+_, _-_, _*_, _≤_, _<_}
+use mathlib.Core.Path.{_≡_, refl, sym, ap, subst, transport, _∙_}
 use native.Mathlib.Omega.{arith}
 use lib.Dec.{eqb}
 use lib.ListN.{length, length-append}
 use Rattle.std.proofs.shelf.Tests.{cond-true}
-use Rattle.symbol.specs.declared.Symbol.{Symbol}
-use Rattle.model.specs.declared.End.{End}
 use Rattle.std.specs.declared.result.Result.the-variants.{Ok}
-use Rattle.symbol.specs.declared.Item.{Item}
 use Rattle.symbol.specs.declared.Frame.{Frame}
+use Rattle.log.specs.declared.event.Event.the-variants as event
+use Rattle.log.specs.declared.event.FrameKind.the-variants.{Freed, Injected, Collected}
 use Rattle.bank.specs.Bank.{BankCalls, LawfulBank}
-use Rattle.model.specs.OnePlace.{numbers}
-use Rattle.port.specs.Port.{next-frame, freed-of}
-use Rattle.model.specs.Chain.{injected}
+use Rattle.port.specs.Port.{next-frame, freed-of, Port, Buffers, Turn, and-then, with-buffers, lent-out, injected-at}
+use Rattle.port.specs.Port.{among}
+use Rattle.model.specs.declared.End.{End}
+use Rattle.model.specs.Chain.{injected, Chain, facing, port-of, with-port, end-port, takes, sends, each-port, ticked}
+use Rattle.model.specs.Chain.{stepped, collects-by, released-at, on}
+use Rattle.model.specs.Run.{Log}
+use Rattle.model.specs.Figures.{frames-among}
+use Rattle.model.specs.OnePlace.{numbers, up-to}
+use Rattle.model.proofs.Accounts.{Account, noted-all, account}
 use Rattle.model.proofs.Banks.{bank-step}
 use Rattle.model.proofs.Cuts.{Cut}
-use Rattle.model.proofs.Records.{AllMeetRoom}
-use Rattle.model.specs.Run.{Log}
-use Rattle.model.proofs.Accounts.{Account, noted-all, account}
-use Rattle.model.specs.Figures.{frames-among}
-use Rattle.port.specs.Port.{Port, Buffers, Turn, and-then, with-buffers, lent-out, injected-at, among, without}
-use Rattle.model.specs.Chain.{Chain, facing, port-of, with-port, end-port, takes, sends, each-port, ticked, stepped}
-use Rattle.model.specs.Chain.{collects-by, released-at}
-use Rattle.model.specs.Chain.{symbols, on}
-use Rattle.model.specs.OnePlace.{up-to}
 use Rattle.model.proofs.Lists.{fewer-without}
 use Rattle.model.proofs.Links.{takes-links, sends-links, each-links}
 use Rattle.model.proofs.Loop.{Loop, receiver-frees}
-use Rattle.model.proofs.Records.{At, account-off, rooms-kept}
+use Rattle.model.proofs.Records.{AllMeetRoom, At, account-off, rooms-kept}
 use Rattle.model.proofs.Places.{facing-back, facing-below, end-below, end-outer, Inner}
 use Rattle.model.proofs.Kept.{Kept, loop-same, Stocked, Fed, Handed, Numbered, Act, Invariant, act, takes-kept}
 use Rattle.model.proofs.Kept.{sends-kept}
-use Rattle.log.specs.declared.event.FrameKind.the-variants.{Freed, Injected, Collected}
-use Rattle.log.specs.declared.event.Event.the-variants as event
 
 numbers-snoc : (fs : List Frame) (f : Frame) → numbers (fs ++ (f ∷ [])) ≡ numbers fs ++ (f .number ∷ [])
 numbers-snoc [] f = refl

@@ -1,14 +1,14 @@
 -- The worked runs, computed.
-use mathlib.Core.Path.{refl}
 use Prim.Native.Nat.{ℕ, zero, suc}
+use mathlib.Core.Path.{refl}
 use Rattle.bank.specs.Bank.{BankCalls}
 use Rattle.links.specs.Links.{one-link, three-links}
-use Rattle.model.specs.declared.End.the-variants.{West}
 use Rattle.port.specs.Port.{Turn}
+use Rattle.model.specs.declared.End.the-variants.{West}
 use Rattle.model.specs.Chain.{Chain}
 use Rattle.model.specs.Run.{Run, is-running, runs, new, login, start, inject, step}
-use Rattle.model.specs.Worked.{room, injecting, stepping, one-lost, some-lost, LossTable, SixSteps, ThreeMadeGood}
-use Rattle.model.specs.Worked.{SixteenMissing}
+use Rattle.model.specs.Worked.{room, injecting, stepping, one-lost, some-lost, over-three, LossTable, SixSteps}
+use Rattle.model.specs.Worked.{ThreeMadeGood, SixteenMissing}
 
 module _ {B : Type 0} (M : BankCalls B) (b : B) where
   -- a turn whose records are the log of a run so far
@@ -36,23 +36,20 @@ six-steps-out = record {
   tick-4 = refl;
 }
 
+three-runs : (first count frames ticks : ℕ)
+    → Run three-links (some-lost first count) is-running (over-three first count frames ticks .state)
+    (over-three first count frames ticks .events)
+three-runs first count frames ticks =
+    stepping-runs three-links (some-lost first count) ticks _
+    (injecting-runs three-links (some-lost first count) frames _
+    (start (login 2 32 32 4 4 (login 1 32 32 4 4 (login 0 32 32 4 4 new)))))
+
 pub three-made-good : ThreeMadeGood
-three-made-good = record {
-  run =
-      stepping-runs three-links (some-lost 5 3) 45 _
-      (injecting-runs three-links (some-lost 5 3) 16 _
-      (start (login 2 32 32 4 4 (login 1 32 32 4 4 (login 0 32 32 4 4 new)))));
-  stretch = refl;
-  port-2 = refl;
-  port-3 = refl;
-}
+three-made-good = record { run = three-runs 5 3 16 45; stretch = refl; port-2 = refl; port-3 = refl }
 
 pub sixteen-missing : SixteenMissing
 sixteen-missing = record {
-  run =
-      stepping-runs three-links (some-lost 17 16) 60 _
-      (injecting-runs three-links (some-lost 17 16) 32 _
-      (start (login 2 32 32 4 4 (login 1 32 32 4 4 (login 0 32 32 4 4 new)))));
+  run = three-runs 17 16 32 60;
   stretch = refl;
   missing-16 = refl;
   port-2 = refl;

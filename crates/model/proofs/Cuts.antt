@@ -1,7 +1,7 @@
 -- The stretches of an account are those of what its port has taken.
-use mathlib.Core.Path.{_≡_, refl, sym, ap, subst, _∙_}
-use mathlib.Core.List.{List, [], _∷_, _++_}
 use Prim.Native.Nat.{ℕ, _+_}
+use mathlib.Core.List.{List, [], _∷_, _++_}
+use mathlib.Core.Path.{_≡_, refl, sym, ap, subst, _∙_}
 use native.Mathlib.Omega.{arith}
 use Rattle.symbol.specs.declared.Symbol.{Symbol}
 use Rattle.model.specs.Figures.{Stream, Frames, RRdys, Role, counted, mark, other, role}

@@ -1,17 +1,18 @@
 -- A counted stream: its sender, the symbols on its way, and its receiver keep in step.
-use mathlib.Core.Path.{_≡_, refl, sym, ap, subst, _∙_}
+use Prim.Native.Nat.{ℕ, suc, _+_, _-_, _%_, _^_, _≤_, _<_}
 use mathlib.Core.Bool.{Bool, true, false, _&&_, _||_}
 use mathlib.Core.List.{List, [], _∷_, _++_}
-use Prim.Native.Nat.{ℕ, suc, _+_, _-_, _%_, _^_, _≤_, _<_}
+use mathlib.Core.Path.{_≡_, refl, sym, ap, subst, _∙_}
 use native.Mathlib.Nat.{mod-lt, mod-le, mod-eq-of-lt, mod-add-mod, add-mod-mod, add-mod-left, mod-add-div, zero-mod}
 use native.Mathlib.Omega.{arith}
 use lib.Dec.{eqb, ltb}
 use lib.Pow.{pow-pos}
 use Rattle.std.proofs.shelf.Tests.{and-parts, eqb-true}
+use Rattle.std.specs.shelf.Lists.{All}
 use Rattle.port.specs.Port.{Outflow, lost-of}
 use Rattle.model.specs.Figures.{Role, counted, mark, other, one-counted, counted-in}
 use Rattle.model.specs.Stretches.{Arrived, WasLost, lost-among, lost-in, good-among}
-use Rattle.model.specs.WholeParts.{Each, WholePart}
+use Rattle.model.specs.WholeParts.{WholePart}
 use Rattle.model.proofs.Accounts.{Losses}
 
 -- the losses of the open stretch
@@ -20,7 +21,7 @@ open-lost x = lost-among (x .cut .still-open)
 
 -- each ended stretch has left a whole part, every loss is in one or in the open one, and all made good is in one
 pub record Wholes (n : ℕ) (x : Losses) : Type 0 where
-  pub each : Each (WholePart n) (x .cut .ended)
+  pub each : All (WholePart n) (x .cut .ended)
   pub all-lost : x .lost ≡ open-lost x + lost-in (x .cut .ended)
   pub all-good : x .good ≡ good-among (x .cut .ended)
 

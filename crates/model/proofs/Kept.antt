@@ -1,56 +1,50 @@
 -- What holds of a chain and the log of its run, and that each act of a port keeps it.
-use mathlib.Core.Path.{_≡_, refl, sym, ap, subst, transport, _∙_}
-use mathlib.Core.Logic.{_⊎_, inl, inr, _≢_}
+use Prim.Native.Nat.{ℕ, _+_, _-_, _*_, _≤_, _<_, min}
 use mathlib.Core.Bool.{Bool, true, false, cond}
 use mathlib.Core.List.{List, [], _∷_, _++_, append-assoc, append-nil}
-use Prim.Native.Nat.{ℕ, _+_, _-_, _*_, _≤_, _<_, min}
+use mathlib.Core.Logic.{_⊎_, inl, inr, _≢_}
+use mathlib.Core.Path.{_≡_, refl, sym, ap, subst, transport, _∙_}
 use native.Mathlib.Omega.{arith}
 use lib.Dec.{eqb, ltb}
-use lib.ListN.{length, getD, set, length-append, length-set}
+use lib.ListN.{length, set, length-append, length-set}
 use lib.Seq.{getD-set-same, getD-set-other, set-getD, set-set, set-comm}
+use Rattle.std.proofs.shelf.Tests.{cond-false, eqb-true, eqb-false, eq-eqb, ne-eqb, cases-eq, ltb-true, or-cases}
+use Rattle.std.proofs.shelf.Tests.{or-parts}
 use Rattle.std.specs.declared.option.Option.{Option}
 use Rattle.std.specs.declared.option.Option.the-variants.{Some, None}
 use Rattle.ring.specs.Queue.{head?, tail}
-use Rattle.std.proofs.shelf.Tests.{cond-false, eqb-true, eqb-false, eq-eqb, ne-eqb, cases-eq, ltb-true, or-cases}
-use Rattle.std.proofs.shelf.Tests.{or-parts, true≢false}
-use Rattle.symbol.specs.declared.Symbol.{Symbol}
+use Rattle.symbol.specs.declared.Frame.{Frame}
+use Rattle.symbol.specs.declared.Item.{Item}
+use Rattle.symbol.specs.declared.Mark.the-variants.{BbScS, BbScR}
 use Rattle.symbol.specs.declared.Note.{Note}
 use Rattle.symbol.specs.declared.Note.the-variants.{Sound, Lost}
-use Rattle.symbol.specs.declared.Item.{Item}
-use Rattle.model.specs.declared.End.{End}
-use Rattle.symbol.specs.declared.Frame.{Frame}
+use Rattle.symbol.specs.declared.Symbol.{Symbol}
+use Rattle.symbol.specs.declared.Symbol.the-variants as symbol
+use Rattle.log.specs.declared.event.Event.the-variants as event
+use Rattle.log.specs.declared.event.FrameKind.the-variants.{Freed}
+use Rattle.log.specs.declared.event.ItemKind.the-variants.{Put, Got}
 use Rattle.bank.specs.Bank.{BankCalls, LawfulBank}
-use Rattle.model.specs.OnePlace.{numbers}
-use Rattle.model.specs.Stretches.{Arrived, WasLost, cut, nothing-put}
-use Rattle.model.proofs.Banks.{bank-put, bank-put-off, bank-take, bank-take-off, bank-take-none, bank-ready}
-use Rattle.model.proofs.Told.{frames-append}
-use Rattle.model.proofs.Cuts.{Cut, cut-more, cut-good}
-use Rattle.model.proofs.Records.{MeetsRoom, AllMeetRoom}
-use Rattle.model.specs.Run.{Log}
-use Rattle.model.proofs.Accounts.{Account, noted, noted-all, account}
-use Rattle.model.specs.Figures.{frames-among}
 use Rattle.port.specs.Port.{Port, Outbox, Turn, new-port, with-buffers, emptied, unsent, frame-of, sent-on, received}
 use Rattle.port.specs.Port.{has-sent, after-send, frame-held, credit-back, frames-found, rrdys-found}
 use Rattle.port.specs.Port.{frames-corrected, rrdys-corrected}
+use Rattle.model.specs.declared.End.{End}
 use Rattle.model.specs.Chain.{Chain, facing, behind, port-of, with-ports, with-port, with-bank, end-port, takes-item}
-use Rattle.model.specs.Chain.{takes, is-end, source, sends-symbol, sends}
-use Rattle.model.specs.Chain.{symbols, on}
-use Rattle.model.specs.OnePlace.{up-to}
-use Rattle.model.specs.Figures.{roles}
+use Rattle.model.specs.Chain.{takes, is-end, source, sends-symbol, sends, symbols, on, sound}
+use Rattle.model.specs.Run.{Log}
+use Rattle.model.specs.Figures.{frames-among, roles, Frames, RRdys}
+use Rattle.model.specs.Stretches.{Arrived, WasLost, cut, nothing-put}
+use Rattle.model.specs.OnePlace.{numbers, up-to}
+use Rattle.model.proofs.Accounts.{Account, noted, noted-all, account}
+use Rattle.model.proofs.Banks.{bank-put, bank-put-off, bank-take, bank-take-off, bank-take-none, bank-ready}
+use Rattle.model.proofs.Told.{frames-append}
+use Rattle.model.proofs.Cuts.{Cut, cut-more, cut-good}
 use Rattle.model.proofs.Lists.{first-is}
 use Rattle.model.proofs.Loop.{taken-events, Sender, Receiver, LoopOf, Loop, sender-takes, receiver-takes, HasRoom}
 use Rattle.model.proofs.Loop.{room, MayPut, sender-puts, receiver-puts, receiver-frees, frame-room, rrdy-room}
-use Rattle.model.proofs.Records.{At, account-own, account-off, account-skip, account-first, receive-at, SameFrames}
-use Rattle.model.proofs.Records.{put-freed-frames, put-freed-puts, rooms-kept, receive-rooms}
+use Rattle.model.proofs.Records.{MeetsRoom, AllMeetRoom, At, account-own, account-off, account-skip, account-first}
+use Rattle.model.proofs.Records.{receive-at, SameFrames, put-freed-frames, put-freed-puts, rooms-kept, receive-rooms}
 use Rattle.model.proofs.Places.{facing-back, facing-below, facing-other, behind-other, behind-one, behind-below}
 use Rattle.model.proofs.Places.{behind-inner, port-same, port-other, not-end, Inner}
-use Rattle.symbol.specs.declared.Symbol.the-variants as symbol
-use Rattle.symbol.specs.declared.Mark.the-variants.{BbScS, BbScR}
-use Rattle.log.specs.declared.event.ItemKind.the-variants.{Put, Got}
-use Rattle.log.specs.declared.event.FrameKind.the-variants.{Freed}
-use Rattle.log.specs.declared.event.Event.the-variants as event
-use Rattle.model.specs.Figures.{Frames, RRdys}
-use Rattle.model.specs.Chain.{sound}
 
 -- every loop of credit
 abbrev pub Loops : ℕ → (ℕ → Port) → (ℕ → List Symbol) → (ℕ → Account) → Type 0

@@ -1,40 +1,43 @@
 -- The laws of every run.
-use mathlib.Core.Path.{_≡_, refl, sym, ap, subst, _∙_}
-use mathlib.Core.List.{List, [], _∷_, _++_, append-nil}
 use Prim.Native.Nat.{ℕ, zero, suc, _+_, _*_, _^_, _<_, min}
+use mathlib.Core.List.{List, [], _∷_, _++_, append-nil}
+use mathlib.Core.Path.{_≡_, refl, sym, ap, subst, _∙_}
 use native.Mathlib.Nat.{mod-lt}
 use native.Mathlib.Omega.{arith}
-use lib.Pow.{pow-pos}
 use lib.ListN.{length, length-append}
+use lib.Pow.{pow-pos}
+use Rattle.std.specs.shelf.Lists.{All}
 use Rattle.symbol.specs.declared.Frame.{Frame}
 use Rattle.symbol.specs.declared.Symbol.{Symbol}
 use Rattle.symbol.specs.declared.Symbol.the-variants as symbol
 use Rattle.log.specs.declared.event.Event.the-variants as event
 use Rattle.log.specs.declared.event.ItemKind.the-variants.{Got}
+use Rattle.reader.specs.Reading.{WellFormed}
 use Rattle.bank.specs.Bank.{BankCalls, LawfulBank}
-use Rattle.model.specs.declared.End.{End}
 use Rattle.port.specs.Port.{Turn, no-act}
-use Rattle.model.specs.Chain.{Chain, facing, port-of, end-port, port-at-end, opposite, on}
-use Rattle.model.specs.Chain.{logins, injects, steps, collects, releases}
-use Rattle.model.specs.Run.{Log, Phase, Moving, Run, is-cabled, is-running, is-draining}
-use Rattle.model.specs.Run.{login, start, inject, step, collect, release, drain}
+use Rattle.model.specs.declared.End.{End}
+use Rattle.model.specs.Chain.{Chain, facing, port-of, end-port, port-at-end, opposite, on, logins, injects, steps}
+use Rattle.model.specs.Chain.{collects, releases}
+use Rattle.model.specs.Run.{Log, Phase, Moving, Run, is-cabled, is-running, is-draining, login, start, inject, step}
+use Rattle.model.specs.Run.{collect, release, drain}
 use Rattle.model.specs.Figures.{Stream, Frames, RRdys, reported-lost, made-good, puts, injected, collected, ticks}
 use Rattle.model.specs.Stretches.{taken, taken-symbols, stretches, cut, nothing-put, lost-in, good-among}
 use Rattle.model.specs.CreditSum.{SumOfSix, CreditSum}
-use Rattle.model.specs.WholeParts.{Each, WholePart, InParts, WholeParts}
-use Rattle.model.specs.OnePlace.{numbers, up-to, over-links, hop, taker, places, OfOneEnd, OnePlace}
-use Rattle.model.specs.RecordsTell.{PortTold, WayTold, PortInBounds, InBounds, RecordsTell}
+use Rattle.model.specs.WholeParts.{WholePart, InParts}
+use Rattle.model.specs.OnePlace.{numbers, up-to, over-links, hop, taker, places, OfOneEnd}
+use Rattle.model.specs.RecordsTell.{PortTold, WayTold, PortInBounds}
 use Rattle.model.specs.Laws.{Holds, EveryRun, Continues}
 use Rattle.model.proofs.Accounts.{Losses, account}
+use Rattle.model.proofs.Told.{told}
+use Rattle.model.proofs.Cuts.{SameLosses, put-stretches}
 use Rattle.model.proofs.InStep.{Wholes}
 use Rattle.model.proofs.Loop.{Loop}
 use Rattle.model.proofs.Records.{AllMeetRoom, room-at}
-use Rattle.model.proofs.Told.{told}
-use Rattle.model.proofs.Cuts.{SameLosses, put-stretches}
 use Rattle.model.proofs.Places.{facing-back, facing-below, end-below}
 use Rattle.model.proofs.Kept.{Invariant}
 use Rattle.model.proofs.Bounds.{Bounded}
 use Rattle.model.proofs.Runs.{run-invariant, run-bounded, run-ticks}
+use Rattle.model.proofs.ReadBack.{run-fine}
 use Rattle.model.proofs.Ways.{times-often, up-to-in, up-to-out, how-often, places-are, collected-in-order, hop-below}
 
 -- a figure that has not come to the largest is exact
@@ -59,7 +62,8 @@ links-same f g zero h = refl
 links-same f g (suc n) h = omega (arith, links-same f g n (λ i z. h i (omega arith)), h n (omega arith))
 
 module _ {B : Type 0} (M : BankCalls B) (law : (b : B) → LawfulBank M b) where
-  module _ (c : Chain B) (l : Log) (h : Invariant M c l) (few : Bounded c) (timed : c .tick ≡ ticks l) where
+  module _ (c : Chain B) (l : Log) (h : Invariant M c l) (few : Bounded c) (timed : c .tick ≡ ticks l)
+      (well : All WellFormed l) where
     -- the loop in which port p sends frames, and the one in which it takes them
     sends-in : (p : ℕ) → p < 2 * c .links
         → Loop (port-of c p) (port-of c (facing p)) (on M c p) (on M c (facing p)) (account p l) (account (facing p) l)
@@ -127,7 +131,7 @@ module _ {B : Type 0} (M : BankCalls B) (law : (b : B) → LawfulBank M b) where
         → x .good ≡ made-good k (facing p) l
         → SameLosses (x .cut) (stretches k p l) → InParts (port-of c p .n) k p l
     wholes p k x w lost good same = record {
-      each = subst (Each (WholePart (port-of c p .n))) (sym (same .ended)) (w .each);
+      each = subst (All (WholePart (port-of c p .n))) (sym (same .ended)) (w .each);
       all-lost = sym lost ∙ w .all-lost ∙ (λ i. sym (same .lost) i + lost-in (sym (same .ended) i));
       all-good = sym good ∙ w .all-good ∙ ap good-among (sym (same .ended));
     }
@@ -185,31 +189,36 @@ module _ {B : Type 0} (M : BankCalls B) (law : (b : B) → LawfulBank M b) where
         rrdys-lost =
             exact-small (sends-in p lt .figures .rrdys-lost) (omega (arith, few .ports p .rrdys-lost, few .tick))
 
+    injected-is : (e : End) → 0 < c .links → port-at-end c e .outbox .injected ≡ length (injected (end-port c e) l)
+    injected-is e some =
+        sym (length-up-to (port-at-end c e .outbox .injected))
+        ∙ ap length (sym (h .numbered e some))
+        ∙ length-numbers (account (end-port c e) l .injected)
+        ∙ ap length (told (end-port c e) l .injected-are)
+
     numbered : (e : End) → 0 < c .links
-        → numbers (injected (end-port c e) l) ≡ up-to (port-at-end c e .outbox .injected)
-    numbered e some = ap numbers (sym (told (end-port c e) l .injected-are)) ∙ h .numbered e some
+        → numbers (injected (end-port c e) l) ≡ up-to (length (injected (end-port c e) l))
+    numbered e some =
+        ap numbers (sym (told (end-port c e) l .injected-are)) ∙ h .numbered e some ∙ ap up-to (injected-is e some)
 
     of-one-end : (e : End) → 0 < c .links → OfOneEnd M c l e
     of-one-end e some = record {
       numbered = numbered e some;
-      one = λ k z n. often k ∙ up-to-in (port-at-end c e .outbox .injected) k z n;
-      no-other = λ k z. often k ∙ up-to-out (port-at-end c e .outbox .injected) k z;
+      one = λ k z n. often k ∙ up-to-in (length (injected (end-port c e) l)) k z n;
+      no-other = λ k z. often k ∙ up-to-out (length (injected (end-port c e) l)) k z;
       in-order = collected-in-order M c l h some e;
     }
       where
-        often : (k : ℕ) → places M c l e k ≡ how-often k (up-to (port-at-end c e .outbox .injected))
-        often k = places-are M c l h some e k ∙ times-often k (injected (end-port c e) l)
-            ∙ ap (how-often k) (numbered e some)
+        often : (k : ℕ) → places M c l e k ≡ how-often k (up-to (length (injected (end-port c e) l)))
+        often k =
+            places-are M c l h some e k ∙ times-often k (injected (end-port c e) l) ∙ ap (how-often k) (numbered e some)
 
     taker-below : (e : End) (i : ℕ) → i < c .links → taker c e i < 2 * c .links
     taker-below e i z = facing-below (c .links) (hop c e i) (taker c e i) refl (hop-below M c e i z)
 
     way-told : (e : End) → 0 < c .links → WayTold c l e
     way-told e some = record {
-      injected-is =
-          sym
-          (sym (length-numbers (injected (end-port c e) l)) ∙ ap length (numbered e some)
-          ∙ length-up-to (port-at-end c e .outbox .injected));
+      injected-is = injected-is e some;
       collected-is = port-told (end-port c (opposite e)) (end-below c (opposite e) some) .handed-is;
       lost-is = links-same _ _ (c .links) (λ i z. port-told (taker c e i) (taker-below e i z) .frames-lost);
     }
@@ -261,11 +270,13 @@ module _ {B : Type 0} (M : BankCalls B) (law : (b : B) → LawfulBank M b) where
         ways = way-told;
         tick = timed;
         in-bounds = record { links = few .links; tick = few .tick; ports = in-bounds };
+        well-formed = well;
       };
     }
 
   pub every-run : (b : B) → EveryRun M b
-  every-run b ph c l r = holds c l (run-invariant M law b ph c l r) (run-bounded M law r) (run-ticks M law r)
+  every-run b ph c l r =
+      holds c l (run-invariant M law b ph c l r) (run-bounded M law r) (run-ticks M law r) (run-fine M law r .log)
 
   -- each call continues every run: from c to c′ by turn t
   onward : (ph ph′ : Phase) (c c′ : Chain B) (t : Turn (Chain B)) → c′ ≡ t .state

@@ -12,7 +12,9 @@ pub mod Kept
 pub mod Calls
 pub mod Bounds
 pub mod Sizes
+pub mod Readable
 pub mod Runs
+pub mod ReadBack
 pub mod Ways
 pub mod Laws
 pub mod Computed

@@ -1,19 +1,18 @@
 -- No act of a port changes the links or the tick.
-use mathlib.Core.Path.{_≡_, refl, _∙_}
-use mathlib.Core.Bool.{Bool, true, false, cond}
 use Prim.Native.Nat.{ℕ, zero, suc}
+use mathlib.Core.Bool.{Bool, true, false, cond}
+use mathlib.Core.Path.{_≡_, refl, _∙_}
 use Rattle.std.specs.declared.option.Option.{Option}
 use Rattle.std.specs.declared.option.Option.the-variants.{Some, None}
-use Rattle.symbol.specs.declared.Symbol.{Symbol}
 use Rattle.symbol.specs.declared.Item.{Item}
-use Rattle.bank.specs.Bank.{BankCalls, LawfulBank}
+use Rattle.symbol.specs.declared.Mark.the-variants.{BbScS, BbScR}
+use Rattle.symbol.specs.declared.Symbol.{Symbol}
+use Rattle.symbol.specs.declared.Symbol.the-variants as symbol
+use Rattle.channel.specs.Calls.{handed}
+use Rattle.bank.specs.Bank.{BankCalls}
 use Rattle.port.specs.Port.{Turn, after-send}
 use Rattle.model.specs.Chain.{sent, Chain, each-port, takes, takes-item, sends, sends-symbol, drawn, is-end}
-use Rattle.model.specs.Chain.{with-port, with-bank, port-of, facing}
-use Rattle.symbol.specs.declared.Symbol.the-variants as symbol
-use Rattle.symbol.specs.declared.Mark.the-variants.{BbScS, BbScR}
-use Rattle.channel.specs.Calls.{handed}
-use Rattle.model.specs.Chain.{sound}
+use Rattle.model.specs.Chain.{with-port, with-bank, port-of, facing, sound}
 
 pub record Still {B : Type 0} (c d : Chain B) : Type 0 where
   pub links : d .links ≡ c .links

@@ -1,9 +1,9 @@
 -- One loop of credit: the port that sends frames, the port that takes them and sends R_RDYs, and what is under way
 -- between them.
-use mathlib.Core.Path.{_≡_, refl, sym, ap, subst, _∙_}
+use Prim.Native.Nat.{ℕ, _+_, _-_, _%_, _^_, _≤_, _<_, min}
 use mathlib.Core.Bool.{Bool, true, false, cond, _&&_, _||_}
 use mathlib.Core.List.{List, [], _∷_, _++_, append-assoc}
-use Prim.Native.Nat.{ℕ, _+_, _-_, _%_, _^_, _≤_, _<_, min}
+use mathlib.Core.Path.{_≡_, refl, sym, ap, subst, _∙_}
 use native.Mathlib.Nat.{mod-le, add-zero, zero-add}
 use native.Mathlib.Omega.{arith}
 use lib.Dec.{eqb, ltb}
@@ -21,10 +21,10 @@ use Rattle.port.specs.Port.{Port, Outflow, lost-of, missed, arrived, received, 
 use Rattle.port.specs.Port.{frame-held, is-full, credit-back, frames-found, rrdys-found, frames-corrected}
 use Rattle.port.specs.Port.{rrdys-corrected, frames-made-good, rrdys-made-good, with-buffers, emptied}
 use Rattle.model.specs.Run.{Log}
-use Rattle.model.specs.Figures.{Stream, Frames, RRdys, Role, counted, mark, role, roles, counted-in, one-counted}
-use Rattle.model.specs.Figures.{how-many}
-use Rattle.model.specs.Stretches.{Passage, Arrived}
-use Rattle.model.proofs.Accounts.{Losses, Tally, Account, noted, noted-all, with-taken, buffers-in-use, credit-used}
+use Rattle.model.specs.Figures.{Stream, Frames, RRdys, Role, counted, role, roles, counted-in, one-counted, how-many}
+use Rattle.model.specs.Stretches.{Passage, Arrived, last-good}
+use Rattle.model.proofs.Accounts.{Losses, Tally, Account, noted, noted-all, with-tallies, with-taken, buffers-in-use}
+use Rattle.model.proofs.Accounts.{credit-used}
 use Rattle.model.proofs.Cuts.{last-good-snoc}
 use Rattle.model.proofs.InStep.{InStep, open-lost, with-got, with-mark, found, counted-snoc, put-counted, put-mark}
 use Rattle.model.proofs.InStep.{put-other, take-other, lose-mark, lose-counted, get-counted, get-mark}
@@ -115,6 +115,14 @@ pub record LoopOf (S : Sender) (R : Receiver) (fwd : List Symbol) (back : List R
   pub rrdys : InStep (S .n) (R .out) (S .got) back (S .losses)
   pub order : S .puts ≡ R .taken ++ fwd
 
+loop-by : {S : Sender} {R : Receiver} {fwd : List Symbol} {back : List Role}
+    → Figures S R (how-many Frames fwd) (counted-in back)
+    → InStep (S .n) (S .out) (R .got) (roles Frames fwd) (R .losses)
+    → InStep (S .n) (R .out) (S .got) back (S .losses)
+    → S .puts ≡ R .taken ++ fwd
+    → LoopOf S R fwd back
+loop-by figures frames rrdys order = record { figures = figures; frames = frames; rrdys = rrdys; order = order }
+
 abbrev pub Loop : Port → Port → List Symbol → List Symbol → Account → Account → Type 0
 Loop s r fwd back a b = LoopOf (sender s a) (receiver r b) fwd (roles RRdys back)
 
@@ -137,61 +145,38 @@ abbrev marked : Tally → ℕ → ℕ → Tally
 marked t g k = record { put = t .put; got = t .got; losses = with-mark (t .losses) g k }
 
 abbrev frames-marked : Account → ℕ → ℕ → List Passage → Account
-frames-marked a g k ts = record {
-  frames = marked (a .frames) g k;
-  rrdys = a .rrdys;
-  freed = a .freed;
-  puts = a .puts;
-  taken = a .taken ++ (symbol.Mark BbScS ∷ []);
-  takes = ts;
-  got = a .got;
-  lost = a .lost;
-  injected = a .injected;
-  collected = a .collected;
-}
+frames-marked a g k ts = with-tallies a (marked (a .frames) g k) (a .rrdys) (symbol.Mark BbScS) ts
 
 abbrev rrdys-marked : Account → ℕ → ℕ → List Passage → Account
-rrdys-marked a g k ts = record {
-  frames = a .frames;
-  rrdys = marked (a .rrdys) g k;
-  freed = a .freed;
-  puts = a .puts;
-  taken = a .taken ++ (symbol.Mark BbScR ∷ []);
-  takes = ts;
-  got = a .got;
-  lost = a .lost;
-  injected = a .injected;
-  collected = a .collected;
-}
+rrdys-marked a g k ts = with-tallies a (a .frames) (marked (a .rrdys) g k) (symbol.Mark BbScR) ts
 
 -- a mark taken, which made k good
 abbrev mark-taken : Account → Symbol → ℕ → List Passage
 mark-taken a y k = a .takes ++ (record { symbol = y; fate = Arrived k } ∷ [])
 
--- the records of a sound mark that makes k good come to that
+-- the records of a sound mark that makes k good come to that: by what an account is to what was made good and taken
+module _ (f : ℕ → ℕ → List Passage → Account) (a : Account) (y : Symbol) (g k : ℕ) where
+  none-good : eqb k 0 ≡ true → f g 0 (mark-taken a y 0) ≡ f (g + k) k (mark-taken a y k)
+  none-good e =
+      ap (λ (z : ℕ). f z 0 (mark-taken a y 0)) (sym (add-zero g))
+      ∙ ap (λ (x : ℕ). f (g + x) x (mark-taken a y x)) (sym (eqb-true k 0 e))
+
+  some-good : f (g + k) (0 + k) (last-good k (mark-taken a y 0)) ≡ f (g + k) k (mark-taken a y k)
+  some-good =
+      ap (f (g + k) (0 + k)) (last-good-snoc k (a .takes) (record { symbol = y; fate = Arrived 0 }))
+      ∙ ap (λ (x : ℕ). f (g + k) x (mark-taken a y x)) (zero-add k)
+
 frames-account : (at : ℕ) (a : Account) (k : ℕ) (t : Bool) → eqb k 0 ≡ t
     → noted-all (noted a (event.Item Got at (symbol.Mark BbScS))) (cond t [] (event.MadeGood at BbScS k ∷ []))
     ≡ frames-marked a (a .frames .losses .good + k) k (mark-taken a (symbol.Mark BbScS) k)
-frames-account at a k true e =
-    ap (λ (g : ℕ). frames-marked a g 0 (mark-taken a (symbol.Mark BbScS) 0)) (sym (add-zero (a .frames .losses .good)))
-    ∙ ap (λ (x : ℕ). frames-marked a (a .frames .losses .good + x) x (mark-taken a (symbol.Mark BbScS) x))
-    (sym (eqb-true k 0 e))
-frames-account at a k false e =
-    ap (frames-marked a (a .frames .losses .good + k) (0 + k))
-    (last-good-snoc k (a .takes) (record { symbol = symbol.Mark BbScS; fate = Arrived 0 }))
-    ∙ ap (λ (x : ℕ). frames-marked a (a .frames .losses .good + k) x (mark-taken a (symbol.Mark BbScS) x)) (zero-add k)
+frames-account at a k true e = none-good (frames-marked a) a (symbol.Mark BbScS) (a .frames .losses .good) k e
+frames-account at a k false e = some-good (frames-marked a) a (symbol.Mark BbScS) (a .frames .losses .good) k
 
 rrdys-account : (at : ℕ) (a : Account) (k : ℕ) (t : Bool) → eqb k 0 ≡ t
     → noted-all (noted a (event.Item Got at (symbol.Mark BbScR))) (cond t [] (event.MadeGood at BbScR k ∷ []))
     ≡ rrdys-marked a (a .rrdys .losses .good + k) k (mark-taken a (symbol.Mark BbScR) k)
-rrdys-account at a k true e =
-    ap (λ (g : ℕ). rrdys-marked a g 0 (mark-taken a (symbol.Mark BbScR) 0)) (sym (add-zero (a .rrdys .losses .good)))
-    ∙ ap (λ (x : ℕ). rrdys-marked a (a .rrdys .losses .good + x) x (mark-taken a (symbol.Mark BbScR) x))
-    (sym (eqb-true k 0 e))
-rrdys-account at a k false e =
-    ap (rrdys-marked a (a .rrdys .losses .good + k) (0 + k))
-    (last-good-snoc k (a .takes) (record { symbol = symbol.Mark BbScR; fate = Arrived 0 }))
-    ∙ ap (λ (x : ℕ). rrdys-marked a (a .rrdys .losses .good + k) x (mark-taken a (symbol.Mark BbScR) x)) (zero-add k)
+rrdys-account at a k true e = none-good (rrdys-marked a) a (symbol.Mark BbScR) (a .rrdys .losses .good) k e
+rrdys-account at a k false e = some-good (rrdys-marked a) a (symbol.Mark BbScR) (a .rrdys .losses .good) k
 
 abbrev one-more : Outflow → ℕ → Outflow
 one-more o n = record { sent = (o .sent + 1) % 2 ^ n; due = o .due || (eqb ((o .sent + 1) % 2 ^ n) 0 && ltb 0 n) }
@@ -206,57 +191,24 @@ MayPut p (symbol.Mark BbScR) = p .rrdys-out .due ≡ true
 module _ (at : ℕ) (s r : Port) (fwd back : List Symbol) (a b : Account) where
   pub sender-misses : (y : Symbol) → Loop s r fwd (y ∷ back) a b
       → Loop (missed s y) r fwd back (noted a (event.Item Missed at y)) b
-  sender-misses (symbol.Frame k) h = record {
-    figures = omega (arith, h);
-    frames = h .frames;
-    rrdys = take-other _ _ _ _ _ (h .rrdys);
-    order = h .order;
-  }
-  sender-misses symbol.RRdy h = record {
-    figures = omega (arith, h);
-    frames = h .frames;
-    rrdys = lose-counted _ _ _ _ _ (h .rrdys);
-    order = h .order;
-  }
-  sender-misses (symbol.Mark BbScS) h = record {
-    figures = omega (arith, h);
-    frames = h .frames;
-    rrdys = take-other _ _ _ _ _ (h .rrdys);
-    order = h .order;
-  }
-  sender-misses (symbol.Mark BbScR) h = record {
-    figures = omega (arith, h);
-    frames = h .frames;
-    rrdys = lose-mark _ _ _ _ _ (h .rrdys);
-    order = h .order;
-  }
+  sender-misses (symbol.Frame k) h =
+      loop-by (omega (arith, h)) (h .frames) (take-other _ _ _ _ _ (h .rrdys)) (h .order)
+  sender-misses symbol.RRdy h = loop-by (omega (arith, h)) (h .frames) (lose-counted _ _ _ _ _ (h .rrdys)) (h .order)
+  sender-misses (symbol.Mark BbScS) h =
+      loop-by (omega (arith, h)) (h .frames) (take-other _ _ _ _ _ (h .rrdys)) (h .order)
+  sender-misses (symbol.Mark BbScR) h =
+      loop-by (omega (arith, h)) (h .frames) (lose-mark _ _ _ _ _ (h .rrdys)) (h .order)
 
   pub receiver-misses : (y : Symbol) → Loop s r (y ∷ fwd) back a b
       → Loop s (missed r y) fwd back a (noted b (event.Item Missed at y))
-  receiver-misses (symbol.Frame k) h = record {
-    figures = omega (arith, h);
-    frames = lose-counted _ _ _ _ _ (h .frames);
-    rrdys = h .rrdys;
-    order = taken-next _ _ _ _ (h .order);
-  }
-  receiver-misses symbol.RRdy h = record {
-    figures = omega (arith, h);
-    frames = take-other _ _ _ _ _ (h .frames);
-    rrdys = h .rrdys;
-    order = taken-next _ _ _ _ (h .order);
-  }
-  receiver-misses (symbol.Mark BbScS) h = record {
-    figures = omega (arith, h);
-    frames = lose-mark _ _ _ _ _ (h .frames);
-    rrdys = h .rrdys;
-    order = taken-next _ _ _ _ (h .order);
-  }
-  receiver-misses (symbol.Mark BbScR) h = record {
-    figures = omega (arith, h);
-    frames = take-other _ _ _ _ _ (h .frames);
-    rrdys = h .rrdys;
-    order = taken-next _ _ _ _ (h .order);
-  }
+  receiver-misses (symbol.Frame k) h =
+      loop-by (omega (arith, h)) (lose-counted _ _ _ _ _ (h .frames)) (h .rrdys) (taken-next _ _ _ _ (h .order))
+  receiver-misses symbol.RRdy h =
+      loop-by (omega (arith, h)) (take-other _ _ _ _ _ (h .frames)) (h .rrdys) (taken-next _ _ _ _ (h .order))
+  receiver-misses (symbol.Mark BbScS) h =
+      loop-by (omega (arith, h)) (lose-mark _ _ _ _ _ (h .frames)) (h .rrdys) (taken-next _ _ _ _ (h .order))
+  receiver-misses (symbol.Mark BbScR) h =
+      loop-by (omega (arith, h)) (take-other _ _ _ _ _ (h .frames)) (h .rrdys) (taken-next _ _ _ _ (h .order))
 
   -- a frame, kept or dropped, is nothing to the loop in which the port sends
   sender-holds : (k : Frame) (t : Bool) → Loop s r fwd back a b
@@ -413,30 +365,21 @@ module _ (at : ℕ) (s r : Port) (fwd back : List Symbol) (a b : Account) where
 
   pub sender-puts : (y : Symbol) → MayPut s y → Loop s r fwd back a b
       → Loop (has-sent s y) r (fwd ++ (y ∷ [])) back (noted a (event.Item Put at y)) b
-  sender-puts (symbol.Frame k) m h = record {
-    figures = omega (arith, h, m, how-many-snoc Frames fwd (symbol.Frame k));
-    frames = put-on (symbol.Frame k) (put-counted _ _ _ _ _ (m .1) (h .frames));
-    rrdys = h .rrdys;
-    order = puts-next (b .taken) fwd _ _ (h .order);
-  }
-  sender-puts symbol.RRdy m h = record {
-    figures = omega (arith, h, how-many-snoc Frames fwd symbol.RRdy);
-    frames = put-on symbol.RRdy (put-other _ _ _ _ _ (h .frames));
-    rrdys = h .rrdys;
-    order = puts-next (b .taken) fwd _ _ (h .order);
-  }
-  sender-puts (symbol.Mark BbScS) m h = record {
-    figures = omega (arith, h, how-many-snoc Frames fwd (symbol.Mark BbScS));
-    frames = put-on (symbol.Mark BbScS) (put-mark _ _ _ _ _ m (h .frames));
-    rrdys = h .rrdys;
-    order = puts-next (b .taken) fwd _ _ (h .order);
-  }
-  sender-puts (symbol.Mark BbScR) m h = record {
-    figures = omega (arith, h, how-many-snoc Frames fwd (symbol.Mark BbScR));
-    frames = put-on (symbol.Mark BbScR) (put-other _ _ _ _ _ (h .frames));
-    rrdys = h .rrdys;
-    order = puts-next (b .taken) fwd _ _ (h .order);
-  }
+  sender-puts (symbol.Frame k) m h =
+      loop-by (omega (arith, h, m, how-many-snoc Frames fwd (symbol.Frame k)))
+      (put-on (symbol.Frame k) (put-counted _ _ _ _ _ (m .1) (h .frames))) (h .rrdys)
+      (puts-next (b .taken) fwd _ _ (h .order))
+  sender-puts symbol.RRdy m h =
+      loop-by (omega (arith, h, how-many-snoc Frames fwd symbol.RRdy))
+      (put-on symbol.RRdy (put-other _ _ _ _ _ (h .frames))) (h .rrdys) (puts-next (b .taken) fwd _ _ (h .order))
+  sender-puts (symbol.Mark BbScS) m h =
+      loop-by (omega (arith, h, how-many-snoc Frames fwd (symbol.Mark BbScS)))
+      (put-on (symbol.Mark BbScS) (put-mark _ _ _ _ _ m (h .frames))) (h .rrdys)
+      (puts-next (b .taken) fwd _ _ (h .order))
+  sender-puts (symbol.Mark BbScR) m h =
+      loop-by (omega (arith, h, how-many-snoc Frames fwd (symbol.Mark BbScR)))
+      (put-on (symbol.Mark BbScR) (put-other _ _ _ _ _ (h .frames))) (h .rrdys)
+      (puts-next (b .taken) fwd _ _ (h .order))
 
   put-back : (y : Symbol) {o : Outflow}
       → InStep (s .n) o (s .rrdys-in .got) (roles RRdys back ++ (role RRdys y ∷ [])) (a .rrdys .losses)
@@ -447,12 +390,9 @@ module _ (at : ℕ) (s r : Port) (fwd back : List Symbol) (a b : Account) where
 
   pub receiver-puts : (y : Symbol) → MayPut r y → Loop s r fwd back a b
       → Loop s (has-sent r y) fwd (back ++ (y ∷ [])) a (noted b (event.Item Put at y))
-  receiver-puts (symbol.Frame k) m h = record {
-    figures = omega (arith, h, how-many-snoc RRdys back (symbol.Frame k));
-    frames = h .frames;
-    rrdys = put-back (symbol.Frame k) (put-other _ _ _ _ _ (h .rrdys));
-    order = h .order;
-  }
+  receiver-puts (symbol.Frame k) m h =
+      loop-by (omega (arith, h, how-many-snoc RRdys back (symbol.Frame k))) (h .frames)
+      (put-back (symbol.Frame k) (put-other _ _ _ _ _ (h .rrdys))) (h .order)
   receiver-puts symbol.RRdy m h = record {
     figures = omega (arith, h, m, how-many-snoc RRdys back symbol.RRdy);
     frames = h .frames;
@@ -464,28 +404,17 @@ module _ (at : ℕ) (s r : Port) (fwd back : List Symbol) (a b : Account) where
         (m .1) (h .rrdys)));
     order = h .order;
   }
-  receiver-puts (symbol.Mark BbScS) m h = record {
-    figures = omega (arith, h, how-many-snoc RRdys back (symbol.Mark BbScS));
-    frames = h .frames;
-    rrdys = put-back (symbol.Mark BbScS) (put-other _ _ _ _ _ (h .rrdys));
-    order = h .order;
-  }
-  receiver-puts (symbol.Mark BbScR) m h = record {
-    figures = omega (arith, h, how-many-snoc RRdys back (symbol.Mark BbScR));
-    frames = h .frames;
-    rrdys = put-back (symbol.Mark BbScR) (put-mark _ _ _ _ _ m (h .rrdys));
-    order = h .order;
-  }
+  receiver-puts (symbol.Mark BbScS) m h =
+      loop-by (omega (arith, h, how-many-snoc RRdys back (symbol.Mark BbScS))) (h .frames)
+      (put-back (symbol.Mark BbScS) (put-other _ _ _ _ _ (h .rrdys))) (h .order)
+  receiver-puts (symbol.Mark BbScR) m h =
+      loop-by (omega (arith, h, how-many-snoc RRdys back (symbol.Mark BbScR))) (h .frames)
+      (put-back (symbol.Mark BbScR) (put-mark _ _ _ _ _ m (h .rrdys))) (h .order)
 
   -- a buffer freed
   pub receiver-frees : (k : Frame) (ks : List Frame) → 0 < r .buffers .held → Loop s r fwd back a b
       → Loop s (with-buffers r (emptied (r .buffers) (k ∷ ks))) fwd back a (noted b (event.Frame Freed at k))
-  receiver-frees k ks m h = record {
-    figures = omega (arith, h, m);
-    frames = h .frames;
-    rrdys = h .rrdys;
-    order = h .order;
-  }
+  receiver-frees k ks m h = loop-by (omega (arith, h, m)) (h .frames) (h .rrdys) (h .order)
 
 -- a port that takes a frame has a buffer for it
 abbrev pub HasRoom : Port → Symbol → Type 0

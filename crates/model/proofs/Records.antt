@@ -1,27 +1,27 @@
 -- The records of one port in a log that grows.
-use mathlib.Core.Path.{_≡_, refl, sym, ap, subst, _∙_, fun-ext}
+use Prim.Native.Nat.{ℕ, _<_}
 use mathlib.Core.Bool.{Bool, true, false, cond}
 use mathlib.Core.List.{List, [], _∷_, _++_, append-assoc, append-nil}
-use Prim.Native.Nat.{ℕ, _<_}
+use mathlib.Core.Path.{_≡_, refl, sym, ap, subst, _∙_, fun-ext}
 use lib.Dec.{eqb}
-use Rattle.symbol.specs.declared.Symbol.{Symbol}
-use Rattle.symbol.specs.declared.Note.{Note}
-use Rattle.symbol.specs.declared.Note.the-variants.{Sound, Lost}
-use Rattle.log.specs.declared.event.Event.{Event}
-use Rattle.model.specs.Run.{Log}
-use Rattle.model.specs.Stretches.{Passage, Stretches}
-use Rattle.model.specs.Figures.{is-at, records}
-use Rattle.model.proofs.Accounts.{Account, noted, noted-all, account, no-account, buffers-in-use, credit-used}
-use Rattle.port.specs.Port.{Port, frames-found, rrdys-found}
-use Rattle.model.proofs.Loop.{taken-events}
+use Rattle.std.specs.shelf.Lists.{All}
 use Rattle.symbol.specs.declared.Frame.{Frame}
-use Rattle.model.specs.WholeParts.{Each}
-use Rattle.symbol.specs.declared.Symbol.the-variants as symbol
 use Rattle.symbol.specs.declared.Mark.{Mark as MarkIs}
 use Rattle.symbol.specs.declared.Mark.the-variants.{BbScS, BbScR}
-use Rattle.log.specs.declared.event.ItemKind.the-variants.{Put, Got, Lost as Missed}
-use Rattle.log.specs.declared.event.FrameKind.the-variants.{Freed}
+use Rattle.symbol.specs.declared.Note.{Note}
+use Rattle.symbol.specs.declared.Note.the-variants.{Sound, Lost}
+use Rattle.symbol.specs.declared.Symbol.{Symbol}
+use Rattle.symbol.specs.declared.Symbol.the-variants as symbol
+use Rattle.log.specs.declared.event.Event.{Event}
 use Rattle.log.specs.declared.event.Event.the-variants as event
+use Rattle.log.specs.declared.event.FrameKind.the-variants.{Freed}
+use Rattle.log.specs.declared.event.ItemKind.the-variants.{Put, Got, Lost as Missed}
+use Rattle.port.specs.Port.{Port, frames-found, rrdys-found}
+use Rattle.model.specs.Run.{Log}
+use Rattle.model.specs.Figures.{is-at, records}
+use Rattle.model.specs.Stretches.{Passage, Stretches}
+use Rattle.model.proofs.Accounts.{Account, noted, noted-all, account, no-account, buffers-in-use, credit-used}
+use Rattle.model.proofs.Loop.{taken-events}
 
 of-port-append : (p : ℕ) (l es : Log) → records p (l ++ es) ≡ records p l ++ records p es
 of-port-append p [] es = refl
@@ -38,7 +38,7 @@ account-append p l es = ap (noted-all no-account) (of-port-append p l es)
 
 -- records that are all the port's, and records of which none is
 abbrev pub At : ℕ → Bool → Log → Type 0
-At p t es = Each (λ (e : Event). is-at p e ≡ t) es
+At p t es = All (λ (e : Event). is-at p e ≡ t) es
 
 of-port-own : (p : ℕ) (es : Log) → At p true es → records p es ≡ es
 of-port-own p [] h = refl
@@ -121,7 +121,8 @@ same-parts a a′ e = record {
 module _ (p x z : ℕ) (f : Frame) (l : Log) where
   put-freed : (a : Account) (t u : Bool)
       → SameFrames a
-      (noted-all a (cond t (event.Item Put x (symbol.Frame f) ∷ []) [] ++ (cond u (event.Frame Freed z f ∷ []) [] ++ [])))
+      (noted-all a
+      (cond t (event.Item Put x (symbol.Frame f) ∷ []) [] ++ (cond u (event.Frame Freed z f ∷ []) [] ++ [])))
   put-freed a true true = same-parts _ _ refl
   put-freed a true false = same-parts _ _ refl
   put-freed a false true = same-parts _ _ refl

@@ -1,53 +1,50 @@
 -- Every run, from the cabling on.
-use mathlib.Core.Path.{_≡_, refl, sym, ap, subst, _∙_}
-use mathlib.Core.Logic.{_⊎_, inl, inr, _≢_}
+use Prim.Native.Nat.{ℕ, zero, suc, _+_, _-_, _*_, _/_, _%_, _^_, _≤_, _<_}
 use mathlib.Core.Bool.{Bool, true, false, cond, _||_}
 use mathlib.Core.List.{List, [], _∷_, _++_, append-nil}
-use Prim.Native.Nat.{ℕ, zero, suc, _+_, _-_, _*_, _/_, _%_, _^_, _≤_, _<_}
+use mathlib.Core.Logic.{_⊎_, inl, inr, _≢_}
+use mathlib.Core.Path.{_≡_, refl, sym, ap, subst, _∙_}
 use native.Mathlib.Nat.{le-refl, zero-mod}
 use native.Mathlib.Omega.{arith}
 use lib.Dec.{eqb, ltb, leb}
-use lib.Pow.{pow-pos}
 use lib.ListN.{length, getD, set, replicate, length-set, length-replicate, getD-replicate}
+use lib.Pow.{pow-pos}
+use Rattle.std.proofs.shelf.Tests.{false≢true, eqb-false, cases-eq, leb-true, leb-false, and-parts, or-parts}
+use Rattle.std.proofs.shelf.Tests.{ltb-false}
 use Rattle.std.specs.declared.option.Option.{Option}
 use Rattle.std.specs.declared.option.Option.the-variants.{Some, None}
 use Rattle.std.specs.declared.result.Result.{Result}
 use Rattle.std.specs.declared.result.Result.the-variants.{Ok, Err}
-use Rattle.std.proofs.shelf.Tests.{false≢true, eqb-true, eqb-false, cases-eq, leb-true, leb-false, and-parts}
-use Rattle.std.proofs.shelf.Tests.{or-parts, ltb-false}
 use Rattle.ring.specs.Queue.{head?, tail, empty}
-use Rattle.model.specs.declared.End.{End}
+use Rattle.symbol.specs.declared.Frame.{Frame}
 use Rattle.symbol.specs.declared.Item.{Item}
+use Rattle.log.specs.declared.event.Event.the-variants as event
+use Rattle.log.specs.declared.event.FrameKind.the-variants.{Freed}
+use Rattle.bank.specs.Bank.{BankCalls, LawfulBank, count}
+use Rattle.port.specs.Port.{freed-of, Port, Turn, no-act, among, handed-out, released, injected-at, logged-in}
+use Rattle.port.specs.Port.{new-port}
+use Rattle.model.specs.declared.End.{End}
 use Rattle.model.specs.declared.Refusal.{Refusal}
 use Rattle.model.specs.declared.Refusal.the-variants as refusal
-use Rattle.symbol.specs.declared.Frame.{Frame}
-use Rattle.bank.specs.Bank.{BankCalls, LawfulBank, count}
-use Rattle.port.specs.Port.{freed-of}
-use Rattle.model.specs.Chain.{injected, call-bytes, last-tick}
-use Rattle.model.specs.Run.{new, login, start, inject, step, collect, release, drain}
+use Rattle.model.specs.Chain.{injected, call-bytes, last-tick, Chain, facing, port-of, with-port, end-port, all-idle}
+use Rattle.model.specs.Chain.{cabled-links, cabled, stepped, from-oldest, collectable, collects-by, collects}
+use Rattle.model.specs.Chain.{released-at, logs-in, logins, step-refusal, inject-refusal, release-refusal}
+use Rattle.model.specs.Chain.{login-refusal, unless-refused, symbols, on}
+use Rattle.model.specs.Run.{new, login, start, inject, step, collect, release, drain, Log, Phase, is-cabled}
+use Rattle.model.specs.Run.{is-running, is-draining, Moving, runs, drains, Run}
 use Rattle.model.specs.Figures.{ticks, tick-in}
-use Rattle.model.proofs.Records.{AllMeetRoom}
-use Rattle.model.proofs.Sizes.{total-append, step-ticks}
-use Rattle.model.proofs.Bounds.{stepped-tick}
-use Rattle.model.specs.Run.{Log}
-use Rattle.model.proofs.Accounts.{account, no-account}
-use Rattle.port.specs.Port.{Port, Turn, no-act, among, without, handed-out, released, injected-at, logged-in, new-port}
-use Rattle.model.specs.Chain.{Chain, facing, port-of, with-port, end-port, all-idle, cabled-links, cabled, stepped}
-use Rattle.model.specs.Chain.{from-oldest, collectable, collects-by, collects, released-at, logs-in, logins}
-use Rattle.model.specs.Chain.{step-refusal, inject-refusal, release-refusal, login-refusal, unless-refused}
-use Rattle.model.specs.Run.{Phase, is-cabled, is-running, is-draining, Moving, runs, drains, Run}
-use Rattle.model.specs.Chain.{symbols, on}
 use Rattle.model.specs.OnePlace.{up-to}
+use Rattle.model.proofs.Accounts.{account, no-account, no-tally}
 use Rattle.model.proofs.Lists.{none-some, first-is}
+use Rattle.model.proofs.InStep.{InStep}
 use Rattle.model.proofs.Loop.{Loop}
-use Rattle.model.proofs.Records.{rooms-kept}
+use Rattle.model.proofs.Records.{AllMeetRoom, rooms-kept}
 use Rattle.model.proofs.Places.{facing-is, behind-below, port-same, port-other, end-below}
 use Rattle.model.proofs.Kept.{Loops, loop-same, Stocked, Invariant, Kept}
 use Rattle.model.proofs.Calls.{step-kept, inject-kept, collect-kept, release-kept}
-use Rattle.model.proofs.Bounds.{Within, Bounded, new-port-within, fresh-within, handed-within, released-within}
-use Rattle.model.proofs.Bounds.{injected-within, with-within, step-bounded}
-use Rattle.log.specs.declared.event.FrameKind.the-variants.{Freed}
-use Rattle.log.specs.declared.event.Event.the-variants as event
+use Rattle.model.proofs.Bounds.{stepped-tick, Within, Bounded, new-port-within, fresh-within, handed-within}
+use Rattle.model.proofs.Bounds.{released-within, injected-within, with-within, step-bounded}
+use Rattle.model.proofs.Sizes.{total-append, step-ticks}
 
 -- the two ports of a link after a login, or before any
 pub record LoggedIn (s r : Port) : Type 0 where
@@ -65,27 +62,19 @@ same-all (x ∷ xs) zero (suc j) s e = refl
 same-all (x ∷ xs) (suc i) zero s e = refl
 same-all (x ∷ xs) (suc i) (suc j) s e = same-all xs i j s e
 
-new-loop : (a b n : ℕ) → Loop (logged-in a b n) (logged-in b a n) [] [] no-account no-account
-new-loop a b n = record {
-  figures = omega arith;
-  frames = record {
-    sent-is = sym (zero-mod (2 ^ n));
-    due-is = λ e. absurd (false≢true e);
-    marks = tt;
-    below = pow-pos n;
-    good = le-refl 0;
-    ended = record { each = tt; all-lost = refl; all-good = refl };
-  };
-  rrdys = record {
-    sent-is = sym (zero-mod (2 ^ n));
-    due-is = λ e. absurd (false≢true e);
-    marks = tt;
-    below = pow-pos n;
-    good = le-refl 0;
-    ended = record { each = tt; all-lost = refl; all-good = refl };
-  };
-  order = refl;
+-- a stream of which nothing was sent
+new-stream : (n : ℕ) → InStep n (record { sent = 0; due = false }) 0 [] (no-tally .losses)
+new-stream n = record {
+  sent-is = sym (zero-mod (2 ^ n));
+  due-is = λ e. absurd (false≢true e);
+  marks = tt;
+  below = pow-pos n;
+  good = le-refl 0;
+  ended = record { each = tt; all-lost = refl; all-good = refl };
 }
+
+new-loop : (a b n : ℕ) → Loop (logged-in a b n) (logged-in b a n) [] [] no-account no-account
+new-loop a b n = record { figures = omega arith; frames = new-stream n; rrdys = new-stream n; order = refl }
 
 module _ {B : Type 0} (M : BankCalls B) (law : (b : B) → LawfulBank M b) where
   -- a cabled chain: nothing has moved yet
@@ -215,7 +204,7 @@ module _ {B : Type 0} (M : BankCalls B) (law : (b : B) → LawfulBank M b) where
   no-cabling : (b : B) → Cabling b 0
   no-cabling b = record { few = omega arith; idle = λ d z. absurd (omega arith) }
 
-  cabling : (b : B) → Cabling b (cabled-links M b)
+  pub cabling : (b : B) → Cabling b (cabled-links M b)
   cabling b = go (eqb (count M b % 2) 0) (leb (count M b) 16) (all-idle M b (count M b)) refl refl
     where
       go : (t u v : Bool) → leb (count M b) 16 ≡ u → all-idle M b (count M b) ≡ v
@@ -263,11 +252,11 @@ module _ {B : Type 0} (M : BankCalls B) (law : (b : B) → LawfulBank M b) where
   unless-kept (Some e) c t l h f = subst (Invariant M c) (sym (append-nil l)) h
 
   -- a test that refuses has not
-  passed : (t : Bool) (r : Refusal) (o : Option Refusal) → cond t (Some r) o ≡ None → (t ≡ false) × (o ≡ None)
+  pub passed : (t : Bool) (r : Refusal) (o : Option Refusal) → cond t (Some r) o ≡ None → (t ≡ false) × (o ≡ None)
   passed true r o e = absurd (none-some (sym e))
   passed false r o e = (refl, e)
 
-  some-links : (c : Chain B) → eqb (c .links) 0 ≡ false → 0 < c .links
+  pub some-links : (c : Chain B) → eqb (c .links) 0 ≡ false → 0 < c .links
   some-links c e = let n : c .links ≢ 0 = eqb-false (c .links) 0 e in omega arith
 
   no-links : (c : Chain B) (l : Log) → c .links ≡ 0 → AllMeetRoom (λ p. port-of c p .buffers .all) [] l
@@ -312,14 +301,19 @@ module _ {B : Type 0} (M : BankCalls B) (law : (b : B) → LawfulBank M b) where
       go true = refl
       go false = refl
 
+  -- a release that is not refused is of a number handed out
+  pub released-out : (c : Chain B) (e : End) (k room : ℕ) → release-refusal M c e k room ≡ None
+      → among k (port-of c (end-port c e) .buffers .out) ≡ true
+  released-out c e k room z = go (among k (port-of c (end-port c e) .buffers .out)) (ltb room call-bytes) z
+    where
+      go : (t u : Bool) → cond t (cond u (Some refusal.SheetFull) None) (Some refusal.NotHandedOut) ≡ None → t ≡ true
+      go true u w = refl
+      go false u w = absurd (none-some (sym w))
+
   release-after : (c : Chain B) (l : Log) (e : End) (k room : ℕ) → Invariant M c l
       → release-refusal M c e k room ≡ None → Kept M l (released-at M c e k)
   release-after c l e k room h z = go (cases-eq (c .links) 0)
     where
-      out : (t u : Bool) → cond t (cond u (Some refusal.SheetFull) None) (Some refusal.NotHandedOut) ≡ None → t ≡ true
-      out true u w = refl
-      out false u w = absurd (none-some (sym w))
-
       go : (c .links ≡ 0) ⊎ (c .links ≡ 0 → ⊥) → Kept M l (released-at M c e k)
       go (inl w) = no-links (released-at M c e k .state) (l ++ released-at M c e k .events) w
           (rooms-kept (λ p. port-of c p .buffers .all) (λ p. port-of (released-at M c e k .state) p .buffers .all) l
@@ -328,7 +322,7 @@ module _ {B : Type 0} (M : BankCalls B) (law : (b : B) → LawfulBank M b) where
           (released-all (port-of c (end-port c e)) k)) (h .room) (tt, tt))
       go (inr n) =
           release-kept M law c l e k h (let m : c .links ≢ 0 = n in omega arith)
-          (out (among k (port-of c (end-port c e) .buffers .out)) (ltb room call-bytes) z)
+          (released-out c e k room z)
 
   login-after : (c : Chain B) (k x y m n : ℕ) → Fresh c → Fresh (logins M c k x y m n .state)
   login-after c k x y m n h = go (login-refusal M c k x y m n) refl
@@ -363,7 +357,7 @@ module _ {B : Type 0} (M : BankCalls B) (law : (b : B) → LawfulBank M b) where
       (handed-within (c .tick) (c .tick) (port-of c (end-port c e)) (h .ports (end-port c e)))
   collect-bounded c e (Err r) h = h
 
-  step-early : (c : Chain B) (room : ℕ) → Bounded c → step-refusal M c room ≡ None → c .tick < last-tick
+  pub step-early : (c : Chain B) (room : ℕ) → Bounded c → step-refusal M c room ≡ None → c .tick < last-tick
   step-early c room h z =
       let n : c .tick ≢ last-tick =
       eqb-false (c .tick) last-tick
@@ -372,7 +366,7 @@ module _ {B : Type 0} (M : BankCalls B) (law : (b : B) → LawfulBank M b) where
       omega (arith, h .tick)
 
   -- what a login that is not refused has asked
-  login-fits : (c : Chain B) (k x y m n : ℕ) → login-refusal M c k x y m n ≡ None → (x ≤ 32) × (y ≤ 32) × (n ≤ 15)
+  pub login-fits : (c : Chain B) (k x y m n : ℕ) → login-refusal M c k x y m n ≡ None → (x ≤ 32) × (y ≤ 32) × (n ≤ 15)
   login-fits c k x y m n z =
       let buffers-asked = passed (leb (c .links) k) refusal.NoLinks _ z .1 in
       let a = passed (ltb x 1 || (ltb 32 x || (ltb y 1 || ltb 32 y))) refusal.BadBuffers _ buffers-asked in

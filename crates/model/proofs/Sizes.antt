@@ -1,8 +1,8 @@
 -- What a step adds to a log: one tick, and no more bytes than it asks for.
-use mathlib.Core.Path.{_≡_, refl, sym, ap, _∙_}
-use mathlib.Core.Bool.{Bool, true, false, cond}
-use mathlib.Core.List.{List, [], _∷_, _++_}
 use Prim.Native.Nat.{ℕ, zero, suc, _+_, _*_, _≤_}
+use mathlib.Core.Bool.{Bool, true, false, cond}
+use mathlib.Core.List.{[], _∷_, _++_}
+use mathlib.Core.Path.{_≡_, refl, ap, _∙_}
 use native.Mathlib.Nat.{suc-mul}
 use native.Mathlib.Omega.{arith}
 use lib.Dec.{eqb}
@@ -10,7 +10,6 @@ use lib.ListN.{length, length-append}
 use Rattle.std.specs.declared.option.Option.{Option}
 use Rattle.std.specs.declared.option.Option.the-variants.{Some, None}
 use Rattle.symbol.specs.declared.Item.{Item}
-use Rattle.symbol.specs.declared.Mark.the-variants.{BbScS, BbScR}
 use Rattle.symbol.specs.declared.Note.{Note}
 use Rattle.symbol.specs.declared.Note.the-variants.{Sound, Lost}
 use Rattle.symbol.specs.declared.Symbol.{Symbol}
@@ -25,9 +24,9 @@ use Rattle.bank.specs.Bank.{BankCalls}
 use Rattle.port.specs.Port.{Turn, receive-events, correction, after-send}
 use Rattle.model.specs.Chain.{Chain, facing, behind, port-of, with-port, with-bank, is-end, freed-events, each-port}
 use Rattle.model.specs.Chain.{takes-item, takes, sent, sends-symbol, sends, ticked, stepped, step-bytes}
-use Rattle.model.specs.Sizes.{CallsFit}
 use Rattle.model.specs.Run.{Log}
 use Rattle.model.specs.Figures.{total, tick-in, ticks}
+use Rattle.model.specs.Sizes.{CallsFit}
 
 pub total-append : (f : Event → ℕ) (es fs : Log) → total f (es ++ fs) ≡ total f es + total f fs
 total-append f [] fs = omega arith

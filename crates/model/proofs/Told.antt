@@ -1,7 +1,7 @@
 -- The account of a port has the figures of its log.
-use mathlib.Core.Path.{_≡_, refl, sym, ap, _∙_}
-use mathlib.Core.List.{List, [], _∷_, _++_, append-assoc, append-nil}
 use Prim.Native.Nat.{ℕ, _+_}
+use mathlib.Core.List.{List, [], _∷_, _++_, append-assoc, append-nil}
+use mathlib.Core.Path.{_≡_, refl, sym, ap, _∙_}
 use native.Mathlib.Omega.{arith}
 use lib.ListN.{length, length-append}
 use Rattle.std.specs.shelf.Lists.{joined}
@@ -13,13 +13,14 @@ use Rattle.log.specs.declared.event.Event.the-variants as event
 use Rattle.log.specs.declared.event.FrameKind.the-variants.{Freed, Injected, Collected}
 use Rattle.log.specs.declared.event.ItemKind.the-variants.{Put, Got, Lost as Missed}
 use Rattle.model.specs.Run.{Log}
-use Rattle.model.specs.Figures.{Stream, Frames, RRdys, Role, counted, mark, other, role, roles, one-counted, counted-in}
-use Rattle.model.specs.Figures.{how-many, frames-among, records, symbol-in, frame-in, good-of-role, good-in, total}
-use Rattle.model.specs.Figures.{puts, put-count, got-count, reported-lost, made-good, freed, lost-frames, injected}
+use Rattle.model.specs.Figures.{Stream, Frames, RRdys, Role, counted, mark, other, role, one-counted, how-many}
+use Rattle.model.specs.Figures.{frames-among, records, symbol-in, frame-in, good-of-role, good-in, total, puts}
+use Rattle.model.specs.Figures.{put-count, got-count, reported-lost, made-good, freed, lost-frames, injected}
 use Rattle.model.specs.Figures.{collected}
 use Rattle.model.specs.Stretches.{Passage, last-good, took, took-all, taken, taken-symbols}
 use Rattle.model.proofs.Accounts.{Tally, Account, one-put, one-got, one-missed, some-good, tally-after, frame-last}
-use Rattle.model.proofs.Accounts.{by-item, by-frame, as-it-was, last, one-freed, noted, noted-all, no-account, account}
+use Rattle.model.proofs.Accounts.{by-item, by-frame, as-it-was, last, one-freed, noted, noted-all, no-account}
+use Rattle.model.proofs.Accounts.{account}
 
 -- numbers and lists that grow with each record
 module _ (π : Account → ℕ) (f : Event → ℕ) (step : (a : Account) (e : Event) → π (noted a e) ≡ π a + f e) where

@@ -1,35 +1,30 @@
 -- The frames of a way: none is gained or gone, and none passes another.
-use mathlib.Core.Path.{_≡_, refl, sym, ap, subst, _∙_}
-use mathlib.Core.Logic.{_⊎_, inl, inr, _≢_}
+use Prim.Native.Nat.{ℕ, zero, suc, _+_, _-_, _*_, _≤_, _<_}
 use mathlib.Core.Bool.{Bool, cond}
 use mathlib.Core.List.{List, [], _∷_, _++_, append-nil}
-use Prim.Native.Nat.{ℕ, zero, suc, _+_, _-_, _*_, _≤_, _<_}
+use mathlib.Core.Logic.{_⊎_, inl, inr, _≢_}
+use mathlib.Core.Path.{_≡_, refl, sym, ap, subst, _∙_}
 use native.Mathlib.Omega.{arith}
 use lib.Dec.{eqb}
 use Rattle.std.proofs.shelf.Tests.{eq-eqb, ne-eqb, cases-eq}
-use Rattle.symbol.specs.declared.Symbol.{Symbol}
-use Rattle.log.specs.declared.event.Event.{Event}
 use Rattle.symbol.specs.declared.Frame.{Frame}
+use Rattle.symbol.specs.declared.Symbol.{Symbol}
+use Rattle.symbol.specs.declared.Symbol.the-variants as symbol
+use Rattle.log.specs.declared.event.Event.{Event}
+use Rattle.log.specs.declared.event.Event.the-variants as event
+use Rattle.log.specs.declared.event.ItemKind.the-variants.{Put, Got, Lost as Missed}
 use Rattle.bank.specs.Bank.{BankCalls}
-use Rattle.model.specs.Figures.{lost-frames, injected, collected}
-use Rattle.model.specs.OnePlace.{numbers}
-use Rattle.model.proofs.Told.{frames-append, told}
-use Rattle.model.specs.Run.{Log}
-use Rattle.model.proofs.Accounts.{Account, noted, noted-all, account, no-account}
-use Rattle.model.specs.Figures.{records, frames-among}
 use Rattle.model.specs.declared.End.{End}
 use Rattle.model.specs.declared.End.the-variants.{West, East}
-use Rattle.model.specs.Chain.{Chain, behind, port-of, end-port}
-use Rattle.model.specs.Chain.{on, opposite}
-use Rattle.model.specs.OnePlace.{up-to, times, InOrderOf, nothing, left-out, next, over-links, hop, taker, at-hop}
-use Rattle.model.specs.OnePlace.{places}
+use Rattle.model.specs.Chain.{Chain, behind, port-of, end-port, on, opposite}
+use Rattle.model.specs.Run.{Log}
+use Rattle.model.specs.Figures.{lost-frames, injected, collected, records, frames-among}
+use Rattle.model.specs.OnePlace.{numbers, up-to, times, InOrderOf, nothing, left-out, next, over-links, hop, taker}
+use Rattle.model.specs.OnePlace.{at-hop, places}
+use Rattle.model.proofs.Accounts.{Account, noted, noted-all, account, no-account}
+use Rattle.model.proofs.Told.{frames-append, told}
 use Rattle.model.proofs.Places.{facing-is, behind-is}
 use Rattle.model.proofs.Kept.{Invariant}
-use Rattle.symbol.specs.declared.Symbol.the-variants as symbol
-use Rattle.symbol.specs.declared.Mark.the-variants.{BbScS, BbScR}
-use Rattle.log.specs.declared.event.ItemKind.the-variants.{Put, Got, Lost as Missed}
-use Rattle.log.specs.declared.event.FrameKind.the-variants.{Freed, Injected, Collected}
-use Rattle.log.specs.declared.event.Event.the-variants as event
 
 times-append : (k : ℕ) (xs ys : List Frame) → times k (xs ++ ys) ≡ times k xs + times k ys
 times-append k [] ys = omega arith
@@ -63,89 +58,64 @@ in-order-more k nothing = left-out nothing
 in-order-more k (left-out h) = left-out (in-order-more k h)
 in-order-more k (next h) = next (in-order-more k h)
 
--- an account's frames taken are those got and those lost
-pub record Taken (a : Account) : Type 0 where
-  pub each : (k : ℕ) → times k (frames-among (a .taken)) ≡ times k (a .got) + times k (a .lost)
-  pub in-order : InOrderOf (a .got) (frames-among (a .taken))
+-- the frames taken are those got and those lost
+pub record Taken (taken : List Symbol) (got lost : List Frame) : Type 0 where
+  pub each : (k : ℕ) → times k (frames-among taken) ≡ times k got + times k lost
+  pub in-order : InOrderOf got (frames-among taken)
 
-taken-other : (a : Account) (y : Symbol) → frames-among (y ∷ []) ≡ []
-    → frames-among (a .taken ++ (y ∷ [])) ≡ frames-among (a .taken)
-taken-other a y e = frames-append (a .taken) (y ∷ []) ∙ ap {B = List Frame} (λ z. frames-among (a .taken) ++ z) e
-    ∙ append-nil (frames-among (a .taken))
+module _ (taken : List Symbol) (got lost : List Frame) (h : Taken taken got lost) where
+  no-frame : (y : Symbol) → frames-among (y ∷ []) ≡ [] → Taken (taken ++ (y ∷ [])) got lost
+  no-frame y e = record {
+    each = λ k. ap (times k) same ∙ h .each k;
+    in-order = subst (InOrderOf got) (sym same) (h .in-order);
+  }
+    where
+      same : frames-among (taken ++ (y ∷ [])) ≡ frames-among taken
+      same =
+          frames-append taken (y ∷ []) ∙ ap {B = List Frame} (λ z. frames-among taken ++ z) e
+          ∙ append-nil (frames-among taken)
 
-no-frame : (a : Account) (y : Symbol) → frames-among (y ∷ []) ≡ [] → Taken a → (k : ℕ)
-    → times k (frames-among (a .taken ++ (y ∷ []))) ≡ times k (a .got) + times k (a .lost)
-no-frame a y e h k = ap (times k) (taken-other a y e) ∙ h .each k
+  more-taken : (f : Frame) (k : ℕ)
+      → times k (frames-among (taken ++ (symbol.Frame f ∷ []))) ≡ times k got + times k lost + times k (f ∷ [])
+  more-taken f k =
+      ap (times k) (frames-append taken (symbol.Frame f ∷ []))
+      ∙ omega (arith, times-append k (frames-among taken) (f ∷ []), h .each k)
 
-no-frame-order : (a : Account) (y : Symbol) → frames-among (y ∷ []) ≡ [] → Taken a
-    → InOrderOf (a .got) (frames-among (a .taken ++ (y ∷ [])))
-no-frame-order a y e h = subst (InOrderOf (a .got)) (sym (taken-other a y e)) (h .in-order)
+  frame-got : (f : Frame) → Taken (taken ++ (symbol.Frame f ∷ [])) (got ++ (f ∷ [])) lost
+  frame-got f = record {
+    each = λ k. omega (arith, more-taken f k, times-append k got (f ∷ []));
+    in-order =
+        subst (InOrderOf (got ++ (f ∷ []))) (sym (frames-append taken (symbol.Frame f ∷ [])))
+        (in-order-both f (h .in-order));
+  }
 
-taken-kept : (a : Account) (e : Event) → Taken a → Taken (noted a e)
+  frame-lost : (f : Frame) → Taken (taken ++ (symbol.Frame f ∷ [])) got (lost ++ (f ∷ []))
+  frame-lost f = record {
+    each = λ k. omega (arith, more-taken f k, times-append k lost (f ∷ []));
+    in-order =
+        subst (InOrderOf got) (sym (frames-append taken (symbol.Frame f ∷ []))) (in-order-more f (h .in-order));
+  }
+
+abbrev TakenBy : Account → Type 0
+TakenBy a = Taken (a .taken) (a .got) (a .lost)
+
+taken-kept : (a : Account) (e : Event) → TakenBy a → TakenBy (noted a e)
 taken-kept a (event.Tick t) h = h
-taken-kept a (event.Item Put q s) h = record { each = h .each; in-order = h .in-order }
-taken-kept a (event.Item Got q (symbol.Frame j)) h = record {
-  each =
-      λ k. omega (
-        arith,
-        ap (times k) (frames-append (a .taken) (symbol.Frame j ∷ [])),
-        times-append k
-            (frames-among (a .taken)) (j ∷ []),
-        times-append k (a .got) (j ∷ []),
-        h .each k,
-      );
-  in-order =
-      subst (InOrderOf (a .got ++ (j ∷ []))) (sym (frames-append (a .taken) (symbol.Frame j ∷ [])))
-      (in-order-both j (h .in-order));
-}
-taken-kept a (event.Item Got q symbol.RRdy) h = record {
-  each = no-frame a symbol.RRdy refl h;
-  in-order = no-frame-order a symbol.RRdy refl h;
-}
-taken-kept a (event.Item Got q (symbol.Mark BbScS)) h = record {
-  each = no-frame a (symbol.Mark BbScS) refl h;
-  in-order = no-frame-order a (symbol.Mark BbScS) refl h;
-}
-taken-kept a (event.Item Got q (symbol.Mark BbScR)) h = record {
-  each = no-frame a (symbol.Mark BbScR) refl h;
-  in-order = no-frame-order a (symbol.Mark BbScR) refl h;
-}
-taken-kept a (event.Item Missed q (symbol.Frame j)) h = record {
-  each =
-      λ k. omega (
-        arith,
-        ap (times k) (frames-append (a .taken) (symbol.Frame j ∷ [])),
-        times-append k
-            (frames-among (a .taken)) (j ∷ []),
-        times-append k (a .lost) (j ∷ []),
-        h .each k,
-      );
-  in-order =
-      subst (InOrderOf (a .got)) (sym (frames-append (a .taken) (symbol.Frame j ∷ []))) (in-order-more j (h .in-order));
-}
-taken-kept a (event.Item Missed q symbol.RRdy) h = record {
-  each = no-frame a symbol.RRdy refl h;
-  in-order = no-frame-order a symbol.RRdy refl h;
-}
-taken-kept a (event.Item Missed q (symbol.Mark BbScS)) h = record {
-  each = no-frame a (symbol.Mark BbScS) refl h;
-  in-order = no-frame-order a (symbol.Mark BbScS) refl h;
-}
-taken-kept a (event.Item Missed q (symbol.Mark BbScR)) h = record {
-  each = no-frame a (symbol.Mark BbScR) refl h;
-  in-order = no-frame-order a (symbol.Mark BbScR) refl h;
-}
-taken-kept a (event.Frame Freed q k) h = record { each = h .each; in-order = h .in-order }
-taken-kept a (event.MadeGood q BbScS k) h = record { each = h .each; in-order = h .in-order }
-taken-kept a (event.MadeGood q BbScR k) h = record { each = h .each; in-order = h .in-order }
-taken-kept a (event.Frame Injected q k) h = record { each = h .each; in-order = h .in-order }
-taken-kept a (event.Frame Collected q k) h = record { each = h .each; in-order = h .in-order }
+taken-kept a (event.Item Put q s) h = h
+taken-kept a (event.Item Got q (symbol.Frame f)) h = frame-got (a .taken) (a .got) (a .lost) h f
+taken-kept a (event.Item Got q symbol.RRdy) h = no-frame (a .taken) (a .got) (a .lost) h symbol.RRdy refl
+taken-kept a (event.Item Got q (symbol.Mark m)) h = no-frame (a .taken) (a .got) (a .lost) h (symbol.Mark m) refl
+taken-kept a (event.Item Missed q (symbol.Frame f)) h = frame-lost (a .taken) (a .got) (a .lost) h f
+taken-kept a (event.Item Missed q symbol.RRdy) h = no-frame (a .taken) (a .got) (a .lost) h symbol.RRdy refl
+taken-kept a (event.Item Missed q (symbol.Mark m)) h = no-frame (a .taken) (a .got) (a .lost) h (symbol.Mark m) refl
+taken-kept a (event.Frame kind q f) h = h
+taken-kept a (event.MadeGood q m k) h = h
 
-taken-all : (a : Account) (l : Log) → Taken a → Taken (noted-all a l)
+taken-all : (a : Account) (l : Log) → TakenBy a → TakenBy (noted-all a l)
 taken-all a [] h = h
 taken-all a (e ∷ es) h = taken-all (noted a e) es (taken-kept a e h)
 
-pub taken-of : (p : ℕ) (l : Log) → Taken (account p l)
+pub taken-of : (p : ℕ) (l : Log) → TakenBy (account p l)
 taken-of p l = taken-all no-account (records p l) (record { each = λ k. refl; in-order = nothing })
 
 -- how often a number is in a list

@@ -1,7 +1,7 @@
 -- A chain of links over a bank, and what each call does to it.
 use Prim.Native.Nat.{ℕ, _+_, _-_, _*_, _/_, _%_}
-use mathlib.Core.Bool.{Bool, true, false, cond, _&&_, _||_}
-use mathlib.Core.List.{List, [], _∷_, _++_}
+use mathlib.Core.Bool.{Bool, true, cond, _&&_, _||_}
+use mathlib.Core.List.{List, [], _∷_}
 use lib.Dec.{eqb, ltb, leb}
 use lib.ListN.{length, getD, set, replicate}
 use Rattle.std.specs.declared.option.Option.{Option}
@@ -20,13 +20,12 @@ use Rattle.log.specs.declared.event.FrameKind.the-variants.{Freed, Injected, Co
 use Rattle.log.specs.declared.event.ItemKind.the-variants.{Put}
 use Rattle.channel.specs.Calls.{handed, idle}
 use Rattle.bank.specs.Bank.{BankCalls, count}
+use Rattle.port.specs.Port.{Port, Turn, no-act, and-then, new-port, logged-in, received, correction, receive-events}
+use Rattle.port.specs.Port.{choice, after-send, sent-on, unsent, next-frame, injected-at, handed-out, among, released}
 use Rattle.model.specs.declared.End.{End}
 use Rattle.model.specs.declared.End.the-variants.{West, East}
 use Rattle.model.specs.declared.Refusal.{Refusal}
 use Rattle.model.specs.declared.Refusal.the-variants as refusal
-use Rattle.port.specs.Port.{Port, Turn, no-act, and-then, new-port, logged-in}
-use Rattle.port.specs.Port.{received, correction, receive-events, choice, after-send, sent-on}
-use Rattle.port.specs.Port.{unsent, next-frame, injected-at, handed-out, among, released}
 
 pub record Chain (B : Type 0) : Type 0 where
   pub bank : B

@@ -1,7 +1,7 @@
 -- The law of the credit sum: where each credit in use is, and that nothing arrives in vain.
 use Prim.Native.Nat.{ℕ, _+_, _*_, _≤_, _<_}
-use mathlib.Core.Path.{_≡_}
 use mathlib.Core.List.{_∷_, _++_}
+use mathlib.Core.Path.{_≡_}
 use Rattle.symbol.specs.declared.Frame.{Frame}
 use Rattle.symbol.specs.declared.Symbol.the-variants as symbol
 use Rattle.log.specs.declared.event.Event.the-variants as event

@@ -1,10 +1,11 @@
 -- The law of one place: where each injected frame is.
 use Prim.Native.Nat.{ℕ, _+_, _-_, _*_, _≤_, _<_}
-use mathlib.Core.Path.{_≡_}
-use mathlib.Core.Logic.{_⊎_}
 use mathlib.Core.Bool.{cond}
 use mathlib.Core.List.{List, [], _∷_, _++_}
+use mathlib.Core.Logic.{_⊎_}
+use mathlib.Core.Path.{_≡_}
 use lib.Dec.{eqb}
+use lib.ListN.{length}
 use Rattle.symbol.specs.declared.Frame.{Frame}
 use Rattle.bank.specs.Bank.{BankCalls}
 use Rattle.model.specs.declared.End.{End}
@@ -39,7 +40,7 @@ over-links f ℕ.zero = 0
 over-links f (ℕ.suc i) = over-links f i + f i
 
 module _ {B : Type 0} where
-  -- the way of the frames injected at an end: its i-th direction, and the port that takes from it.
+  -- the way of the frames injected at an end: its i-th direction, and the port that takes from it
   abbrev pub hop : Chain B → End → ℕ → ℕ
   hop c West i = 2 * i
   hop c East i = last-port c - 2 * i
@@ -62,10 +63,12 @@ module _ {B : Type 0} (M : BankCalls B) where
       + over-links (at-hop c l e k) (c .links)
       + times k (collected (end-port c (opposite e)) l)
 
+  -- Of the frames injected at an end: their numbers are 1, 2 and so on; each is in exactly one place, and no other
+  -- number is in any; and those collected at the other end are in the order of injection, none twice.
   pub record OfOneEnd (c : Chain B) (l : Log) (e : End) : Type 0 where
-    pub numbered : numbers (injected (end-port c e) l) ≡ up-to (port-at-end c e .outbox .injected)
-    pub one : (k : ℕ) → 0 < k → k ≤ port-at-end c e .outbox .injected → places c l e k ≡ 1
-    pub no-other : (k : ℕ) → (k ≡ 0) ⊎ (port-at-end c e .outbox .injected < k) → places c l e k ≡ 0
+    pub numbered : numbers (injected (end-port c e) l) ≡ up-to (length (injected (end-port c e) l))
+    pub one : (k : ℕ) → 0 < k → k ≤ length (injected (end-port c e) l) → places c l e k ≡ 1
+    pub no-other : (k : ℕ) → (k ≡ 0) ⊎ (length (injected (end-port c e) l) < k) → places c l e k ≡ 0
     pub in-order : InOrderOf (collected (end-port c (opposite e)) l) (injected (end-port c e) l)
 
   pub record OnePlace (c : Chain B) (l : Log) : Type 0 where

@@ -2,8 +2,10 @@
 use Prim.Native.Nat.{ℕ, _+_, _*_, _^_, _≤_, _<_}
 use mathlib.Core.Path.{_≡_}
 use lib.ListN.{length}
-use Rattle.model.specs.declared.End.{End}
+use Rattle.std.specs.shelf.Lists.{All}
+use Rattle.reader.specs.Reading.{WellFormed}
 use Rattle.port.specs.Port.{Port}
+use Rattle.model.specs.declared.End.{End}
 use Rattle.model.specs.Chain.{Chain, port-of, end-port, port-at-end, opposite, last-tick, outbox-places}
 use Rattle.model.specs.Run.{Log}
 use Rattle.model.specs.Figures.{Frames, RRdys, reported-lost, made-good, injected, collected, held, owed}
@@ -67,3 +69,5 @@ module _ {B : Type 0} where
     pub ways : (e : End) → 0 < c .links → WayTold c l e
     pub tick : c .tick ≡ ticks l
     pub in-bounds : InBounds c
+    -- each record is well-formed, so that the log of a run reads back as its events
+    pub well-formed : All WellFormed l

@@ -5,8 +5,8 @@ use Rattle.symbol.specs.declared.Symbol.{Symbol}
 use Rattle.log.specs.declared.event.Event.{Event}
 use Rattle.log.specs.declared.event.Event.the-variants as event
 use Rattle.log.specs.declared.event.ItemKind.the-variants.{Put, Got, Lost}
-use Rattle.model.specs.Run.{Log}
 use Rattle.model.specs.Chain.{facing}
+use Rattle.model.specs.Run.{Log}
 use Rattle.model.specs.Figures.{Stream, Role, counted, mark, other, role, records, puts}
 
 -- what became of a symbol that was put: it arrived sound, and as a mark made so many good; it was reported lost; or it

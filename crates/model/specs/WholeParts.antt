@@ -1,18 +1,14 @@
 -- The law of whole parts: what each stretch of a counted stream leaves missing.
 use Prim.Native.Nat.{ℕ, _+_, _*_, _/_, _^_, _≤_, _<_}
+use mathlib.Core.List.{_++_}
 use mathlib.Core.Path.{_≡_}
-use mathlib.Core.List.{List, [], _∷_, _++_}
+use Rattle.std.specs.shelf.Lists.{All}
 use Rattle.bank.specs.Bank.{BankCalls}
 use Rattle.model.specs.Chain.{Chain, facing, port-of, on}
 use Rattle.model.specs.Run.{Log}
 use Rattle.model.specs.Figures.{Stream, puts, reported-lost, made-good}
-use Rattle.model.specs.Stretches.{Stretch, taken, taken-symbols, stretches, losses, left-missing}
-use Rattle.model.specs.Stretches.{lost-among, lost-in, good-among}
-
--- P holds of each
-abbrev pub Each : {A : Type 0} → (A → Type 0) → List A → Type 0
-Each P [] = Unit {0}
-Each P (x ∷ xs) = P x × Each P xs
+use Rattle.model.specs.Stretches.{Stretch, taken, taken-symbols, stretches, losses, left-missing, lost-among, lost-in}
+use Rattle.model.specs.Stretches.{good-among}
 
 -- a stretch that a mark has ended leaves 2^N times the whole part of its losses over 2^N missing, and fewer than 2^N
 -- losses leave nothing
@@ -24,7 +20,7 @@ pub record WholePart (n : ℕ) (s : Stretch) : Type 0 where
 -- each ended stretch of a stream on the direction of port p does so; every reported loss is in an ended stretch or in
 -- the open one, and all that was made good in an ended one
 pub record InParts (n : ℕ) (k : Stream) (p : ℕ) (l : Log) : Type 0 where
-  pub each : Each (WholePart n) (stretches k p l .ended)
+  pub each : All (WholePart n) (stretches k p l .ended)
   pub all-lost : reported-lost k (facing p) l ≡
       lost-among (stretches k p l .still-open) + lost-in (stretches k p l .ended)
   pub all-good : made-good k (facing p) l ≡ good-among (stretches k p l .ended)

@@ -1,8 +1,8 @@
 -- Runs that were worked out by hand, over the banks of one link and of three.
 use Prim.Native.Nat.{ℕ, zero, suc}
-use mathlib.Core.Path.{_≡_}
 use mathlib.Core.Bool.{cond}
 use mathlib.Core.List.{List, [], _∷_}
+use mathlib.Core.Path.{_≡_}
 use lib.Dec.{eqb}
 use Rattle.symbol.specs.declared.SymbolKind.the-variants.{Frame}
 use Rattle.log.specs.Format.{encode-all}
@@ -11,9 +11,9 @@ use Rattle.log.specs.declared.event.Event.the-variants as event
 use Rattle.bank.specs.Bank.{BankCalls}
 use Rattle.loss.specs.declared.script.LossEntry.{LossEntry}
 use Rattle.links.specs.Links.{WireStates, RingStates, one-link, three-links, lossy-wires, lossy-three-links}
+use Rattle.port.specs.Port.{Port, Turn, no-act, and-then, lost-of}
 use Rattle.model.specs.declared.End.{End}
 use Rattle.model.specs.declared.End.the-variants.{West, East}
-use Rattle.port.specs.Port.{Port, Turn, no-act, and-then, lost-of}
 use Rattle.model.specs.Chain.{Chain, cabled, logins, injects, steps, port-of, port-at-end, opposite}
 use Rattle.model.specs.Run.{Log, Run, is-running}
 use Rattle.model.specs.Figures.{Frames, missing}
