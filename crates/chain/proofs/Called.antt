@@ -62,10 +62,12 @@ module _ {C R : Type 0} (c : C) (t : Turn C) (a : Option Refusal → R) (sheet :
 
 -- The same of a collect, by the frame that it hands out.
 module _ {B : Type 0} (M : BankCalls B) (c : Chain B) (e : End) (sheet : List ℕ) (used n : ℕ) where
-  pub refused-collect : (q : Result Frame Refusal) (x : Refusal) (r : Result (Token × ℕ) Refusal) → Err x ≡ q → r ≡ Err x
+  pub refused-collect : (q : Result Frame Refusal) (x : Refusal) (r : Result (Token × ℕ) Refusal) → Err x ≡ q
+      → r ≡ Err x
       → Called (collects-by M c e q) (handed-over e q n) sheet used c sheet r
   refused-collect q x r is answers =
-      let P : Result Frame Refusal → Type 0 = λ y. Called (collects-by M c e y) (handed-over e y n) sheet used c sheet r in
+      let P : Result Frame Refusal
+      → Type 0 = λ y. Called (collects-by M c e y) (handed-over e y n) sheet used c sheet r in
       subst P is (record { state = refl; bytes = sym (splice-nil sheet used); answers = answers })
 
   pub made-collect : (q : Result Frame Refusal) (f : Frame) (d : Chain B) (after : List ℕ) (end : ℕ) → Ok f ≡ q

@@ -36,7 +36,8 @@ impl<B: Bank, S: Moving> Chain<B, S> {
             (chain-of model (now (self .exit) .inner)) (now (sheet .exit)) r ⌝ }
         ensures run { λ _. ⌜ Continues calls phase phase
             (chain-of model (now (self .entry) .inner)) (chain-of model (now (self .exit) .inner))
-            (collects calls (chain-of model (now (self .entry) .inner)) end (room (now (sheet .entry)) used) .events) ⌝ }
+            (collects calls (chain-of model (now (self .entry) .inner)) end
+            (room (now (sheet .entry)) used) .events) ⌝ }
     {
         self.inner.collect(end, sheet, used)
     }

@@ -21,7 +21,8 @@ returns-in-Break-frame g c =
     let p = err-from-errBy (c .from-residual .result) (c .from-residual .ensures .1) in
     refused-collect M self e sheet used (used + call-bytes) (collectable M self e (length sheet - used))
     (c .in-Break-frame .field-0 .0) (c .from-residual .result)
-    (c .in-Break-frame .ensures tt .value ∙ ap (collectable M self e) (c .saturating-sub .ensures)) (p .1 ∙ ap Err (p .2))
+    (c .in-Break-frame .ensures tt .value ∙ ap (collectable M self e) (c .saturating-sub .ensures))
+    (p .1 ∙ ap Err (p .2))
 
 pub returns : need.returns
 returns g c =
@@ -33,10 +34,12 @@ returns g c =
     let frame = c .in-Continue-frame .frame in
     let turn = collects-by M self e (Ok frame) in
     let left = c .in-Continue-frame .ensures tt .open in
-    let fits : length (encode-all (turn .events)) ≤ length sheet - used = omega (arith, left, c .saturating-sub .ensures) in
+    let fits : length (encode-all (turn .events)) ≤ length sheet - used =
+    omega (arith, left, c .saturating-sub .ensures) in
     let inside : used ≤ length sheet = omega (arith, left, c .saturating-sub .ensures) in
     let w =
-    wrote sheet used (turn .events) (c .write-event-next .last .sheet) (c .write-event-next .result) fits inside (search needs) in
+    wrote sheet used (turn .events) (c .write-event-next .last .sheet) (c .write-event-next .result) fits inside
+    (search needs) in
     made-collect M self e sheet used (used + call-bytes) (collectable M self e (length sheet - used)) frame _ _ _
     (c .in-Continue-frame .ensures tt .value ∙ ap (collectable M self e) (c .saturating-sub .ensures)) (search needs)
     w (w .end-is)

@@ -28,10 +28,14 @@ returns g c =
     let used = c .args .used in
     let turn = injected M self (c .args .end) in
     let left = c .in-rest .ensures tt .open .1 in
-    let fits : length (encode-all (turn .events)) ≤ length sheet - used = omega (arith, left, c .saturating-sub .ensures) in
+    let fits : length (encode-all (turn .events)) ≤ length sheet - used =
+    omega (arith, left, c .saturating-sub .ensures) in
     let inside : used ≤ length sheet = omega (arith, left, c .saturating-sub .ensures) in
-    let w = wrote sheet used (turn .events) (c .write-event .last .sheet) (c .write-event .result) fits inside (search needs) in
+    let w =
+    wrote sheet used (turn .events) (c .write-event .last .sheet) (c .write-event .result) fits inside
+    (search needs) in
     made-call self turn (λ o. answer o (used + call-bytes)) sheet used
     (inject-refusal M self (c .args .end) (length sheet - used)) _ _ _ _
-    (c .in-rest .ensures tt .value ∙ ap (inject-refusal M self (c .args .end)) (c .saturating-sub .ensures)) (search needs)
+    (c .in-rest .ensures tt .value ∙ ap (inject-refusal M self (c .args .end)) (c .saturating-sub .ensures))
+    (search needs)
     w (ap Ok (w .end-is))

@@ -36,7 +36,9 @@ returns g c =
     let fits : length (encode-all (turn .events)) ≤ length sheet - used =
     omega (arith, left, c .saturating-sub-room .ensures) in
     let inside : used ≤ length sheet = omega (arith, left, c .saturating-sub-room .ensures) in
-    let w = wrote sheet used (turn .events) (c .write-event .last .sheet) (c .write-event .result) fits inside (search needs) in
+    let w =
+    wrote sheet used (turn .events) (c .write-event .last .sheet) (c .write-event .result) fits inside
+    (search needs) in
     made-call self turn (λ o. handed-back token o (used + call-bytes)) sheet used
     (release-refusal M self (token .end) (token .frame .number) (length sheet - used)) _ _ _ _
     (c .in-rest .ensures tt .value

@@ -34,5 +34,6 @@ returns g c =
     let w = wrote sheet used events _ _ fits inside (c .step-all .ensures .sheet) in
     made-call self (stepped M self) (λ o. answer o (used + length (encode-all events))) sheet used
     (step-refusal M self (length sheet - used)) _ _ _ _
-    (c .in-rest .ensures tt .value ∙ ap (step-refusal M self) (c .saturating-sub .ensures)) (c .step-all .ensures .state)
+    (c .in-rest .ensures tt .value ∙ ap (step-refusal M self) (c .saturating-sub .ensures))
+    (c .step-all .ensures .state)
     w (ap Ok (w .end-is))
