@@ -46,7 +46,8 @@ module _ {B C : Type 0} (m : BankCalls B) (n : BankCalls C) where
       (λ _ _. refl)
       (λ _ _. refl)
 
-  changed-second : (a : B) (b b′ : C) (j : ℕ) → (count m a ≤ j → n .known b′ (j - count m a) ≡ n .known b (j - count m a)) →
+  changed-second : (a : B) (b b′ : C) (j : ℕ)
+      → (count m a ≤ j → n .known b′ (j - count m a) ≡ n .known b (j - count m a)) →
       pair m n .known (a, b′) j ≡ pair m n .known (a, b) j
   changed-second a b b′ j h =
       by-route (count m a) j
@@ -63,7 +64,8 @@ module _ {B C : Type 0} (m : BankCalls B) (n : BankCalls C) where
     take-second = λ l s. ap (taken-by (p .0) (p .1)) (route-second (count m (p .0)) k l s);
   }
 
-module _ {B C : Type 0} (m : BankCalls B) (n : BankCalls C) (a : B) (b : C) (la : LawfulBank m a) (lb : LawfulBank n b) where
+module _ {B C : Type 0} (m : BankCalls B) (n : BankCalls C) (a : B) (b : C) (la : LawfulBank m a)
+    (lb : LawfulBank n b) where
   moved-others : (f : ℕ → B) (g : ℕ → C) (k j : ℕ) → j ≢ k →
       ((i : ℕ) → m .letters (f i) ≡ m .letters a) →
       ((i h : ℕ) → h ≢ i → m .known (f i) h ≡ m .known a h) →
@@ -121,7 +123,8 @@ module _ {B C : Type 0} (m : BankCalls B) (n : BankCalls C) (a : B) (b : C) (la 
       record {
         known-here = known-second m n a b k l s;
         loses-here = λ i. ap (loses-by m n a b i) at;
-        known-put = λ i. ap (λ p. pair m n .known p k) (apart .put-second i l s) ∙ known-second m n a (n .put b j i) k l s;
+        known-put = λ i. ap (λ p. pair m n .known p k) (apart .put-second i l s)
+            ∙ known-second m n a (n .put b j i) k l s;
         known-take = ap (λ p. pair m n .known p k) (apart .take-second l s) ∙ known-second m n a (n .take b j) k l s;
         known-step =
             known-second m n (m .step a) (n .step b) k (omega (arith, ap length (la .step-letters))) s
@@ -155,8 +158,11 @@ module _ {B C : Type 0} (m : BankCalls B) (n : BankCalls C) (a : B) (b : C) (la 
     put-others = λ k j i ne.
         moved-others (λ h. m .put a h i) (λ h. n .put b h i) k j ne (λ h. la .put-letters h i)
         (λ h g. la .put-others h g i) (λ h g. lb .put-others h g i);
-    take-others = λ k j ne. moved-others (m .take a) (n .take b) k j ne (la .take-letters) (la .take-others) (lb .take-others);
-    put-letters = λ k i. moved-letters (λ h. m .put a h i) (λ h. n .put b h i) k (λ h. la .put-letters h i) (λ h. lb .put-letters h i);
+    take-others =
+        λ k j ne. moved-others (m .take a) (n .take b) k j ne (la .take-letters) (la .take-others) (lb .take-others);
+    put-letters =
+        λ k i. moved-letters (λ h. m .put a h i) (λ h. n .put b h i) k (λ h. la .put-letters h i)
+        (λ h. lb .put-letters h i);
     take-letters = λ k. moved-letters (m .take a) (n .take b) k (la .take-letters) (lb .take-letters);
     step-letters = ap₂ (λ xs ys. take most-channels (xs ++ ys)) (la .step-letters) (lb .step-letters);
     beyond = past-pair;

@@ -6,7 +6,8 @@ use mathlib.Core.List.{List, _++_}
 use native.Mathlib.Omega.{arith}
 use lib.Dec.{ltb}
 use lib.ListN.{length, take}
-use Rattle.std.proofs.shelf.Lists.{length-take, length-append, getD-take, getD-append-left, getD-append-right, getD-past}
+use Rattle.std.proofs.shelf.Lists.{length-take, length-append, getD-take, getD-append-left, getD-append-right}
+use Rattle.std.proofs.shelf.Lists.{getD-past}
 use Rattle.std.proofs.shelf.Tests.{cond-true, cond-false, lt-ltb, le-ltb, cases-lt}
 use Rattle.bank.specs.Bank.{BankCalls, count, letter-at, most-channels}
 use Rattle.bank.specs.Banks.{pair, route, routed}
@@ -18,10 +19,12 @@ module _ (n k : ℕ) where
   route-first l = cond-true (ltb k n) _ _ (lt-ltb k n l)
 
   pub route-second : n ≤ k → k < most-channels → route n k ≡ Second (k - n)
-  route-second l s = cond-false (ltb k n) _ _ (le-ltb k n l) ∙ cond-true (ltb k most-channels) _ _ (lt-ltb k most-channels s)
+  route-second l s = cond-false (ltb k n) _ _ (le-ltb k n l)
+      ∙ cond-true (ltb k most-channels) _ _ (lt-ltb k most-channels s)
 
   pub route-nowhere : n ≤ k → most-channels ≤ k → route n k ≡ Nowhere
-  route-nowhere l s = cond-false (ltb k n) _ _ (le-ltb k n l) ∙ cond-false (ltb k most-channels) _ _ (le-ltb k most-channels s)
+  route-nowhere l s = cond-false (ltb k n) _ _ (le-ltb k n l)
+      ∙ cond-false (ltb k most-channels) _ _ (le-ltb k most-channels s)
 
   -- by where the number leads
   pub by-route : (P : Route → Type 0) → (k < n → P (First k)) → (n ≤ k → k < most-channels → P (Second (k - n))) →

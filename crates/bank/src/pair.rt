@@ -24,7 +24,8 @@ enum Route {
 
 impl<P: Bank, Q: Bank> Pair<P, Q> {
     pub fn new(first: P, second: Q) -> Self
-        ensures state { λ r. ⌜ pair-state (P·Bank .model) (Q·Bank .model) r ≡ both (P·Bank .model first) (Q·Bank .model second) ⌝ }
+        ensures state { λ r. ⌜ pair-state (P·Bank .model) (Q·Bank .model) r
+            ≡ both (P·Bank .model first) (Q·Bank .model second) ⌝ }
         ensures apart { λ _. ⌜ Kept-apart (P·Bank .calls) (Q·Bank .calls) ⌝ }
     {
         Pair { first, second }

@@ -18,7 +18,8 @@ use Rattle.channel.proofs.Queues.{empty-idle, map-empty, map-tail}
 pushed-due : (ts : List Timed) (t : Timed) → due ts ≡ true → due (pushed delay-places ts t) ≡ true
 pushed-due [] t e = absurd (false≢true e)
 pushed-due (u ∷ ts) t e =
-    cond-both (ltb (length (u ∷ ts)) delay-places) ((u ∷ ts) ++ (t ∷ [])) (u ∷ ts) (λ vs. due vs ≡ true) (λ _. e) (λ _. e)
+    cond-both (ltb (length (u ∷ ts)) delay-places) ((u ∷ ts) ++ (t ∷ [])) (u ∷ ts) (λ vs. due vs ≡ true) (λ _. e)
+    (λ _. e)
 
 nearer-due : (ts : List Timed) → due ts ≡ true → due (map nearer ts) ≡ true
 nearer-due [] e = e
@@ -35,7 +36,10 @@ due-some (t ∷ ts) e = refl
 pub delay-lawful : (c : Delayed) → Lawful delay-ring c
 delay-lawful c = record {
   put-full = λ i e. ap (with-waiting c) (cond-false _ _ _ e);
-  put-last = λ i e. ap items-of (cond-true _ _ _ e) ∙ map-push (λ t. t .item) (c .waiting) (record { item = i; wait = c .delay });
+  put-last = λ i e. ap items-of (cond-true _ _ _ e) ∙ map-push (λ t. t .item) (c .waiting) (record {
+    item = i;
+    wait = c .delay;
+  });
   put-ready = λ i e. pushed-due (c .waiting) _ e;
   take-none = λ e. ap (with-waiting c) (cond-false _ _ _ e);
   take-first = λ e. ap items-of (cond-true _ _ _ e) ∙ map-tail (λ t. t .item) (c .waiting);

@@ -18,9 +18,11 @@ module _ (n : ℕ) where
       let h = and-parts (leb (u .wait) n) (within n ts) e in
       and-from (leb (u .wait) n) (within n (ts ++ (t ∷ []))) (h .0) (within-last ts t (h .1) l)
 
-  pub within-pushed : (cap : ℕ) (ts : List Timed) (t : Timed) → within n ts ≡ true → t .wait ≤ n → within n (pushed cap ts t) ≡ true
+  pub within-pushed : (cap : ℕ) (ts : List Timed) (t : Timed) → within n ts ≡ true → t .wait ≤ n
+      → within n (pushed cap ts t) ≡ true
   within-pushed cap ts t e l =
-      cond-both (ltb (length ts) cap) (ts ++ (t ∷ [])) ts (λ us. within n us ≡ true) (λ _. within-last ts t e l) (λ _. e)
+      cond-both (ltb (length ts) cap) (ts ++ (t ∷ [])) ts (λ us. within n us ≡ true) (λ _. within-last ts t e l)
+      (λ _. e)
 
   pub within-nearer : (ts : List Timed) → within n ts ≡ true → within n (map nearer ts) ≡ true
   within-nearer [] e = refl

@@ -15,7 +15,8 @@ module _ (l : Losses) (d : ℕ) where
   size : length (losses-state l) ≡ directions-scripted
   size = length-map (l .scripts) script-state ∙ l .long
 
-  pub script-here : (x : LossScript) → d < directions-scripted → script-at (losses-state l) d ≡ script-state (getD (l .scripts) d x)
+  pub script-here : (x : LossScript) → d < directions-scripted
+      → script-at (losses-state l) d ≡ script-state (getD (l .scripts) d x)
   script-here x h = getD-map script-state (l .scripts) d x [] (omega (arith, l .long))
 
   pub script-none : directions-scripted ≤ d → script-at (losses-state l) d ≡ []

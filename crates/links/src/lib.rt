@@ -66,7 +66,8 @@ fn ring_link(east: LossScript, west: LossScript) -> Link<LossyRing>
 
 // Three banks, the westernmost one's numbers first.
 fn three<P: Bank, Q: Bank, R: Bank>(west: P, middle: Q, east: R) -> Pair<P, Pair<Q, R>>
-    ensures { λ r. ⌜ three-state (P·Bank .model) (Q·Bank .model) (R·Bank .model) r ≡ both (P·Bank .model west) (both (Q·Bank .model middle) (R·Bank .model east)) ⌝ }
+    ensures { λ r. ⌜ three-state (P·Bank .model) (Q·Bank .model) (R·Bank .model) r
+        ≡ both (P·Bank .model west) (both (Q·Bank .model middle) (R·Bank .model east)) ⌝ }
 {
     Pair::new(west, Pair::new(middle, east))
 }

@@ -27,7 +27,8 @@ module _ {C : Type 0} (m : Calls C) (c : Lossy C) (l : Lawful m (c .below)) wher
     put-full = λ i e. ap₂ with-counts (l .put-full (given c i) e) (cond-false (m .known (c .below) .space) _ _ e);
     put-last = λ i e.
         l .put-last (given c i) e
-        ∙ ap (λ x. m .known (c .below) .items ++ (x ∷ [])) (either-lost (named c i) (m .loses (c .below) (given c i)) i);
+        ∙ ap (λ x. m .known (c .below) .items ++ (x ∷ []))
+        (either-lost (named c i) (m .loses (c .below) (given c i)) i);
     put-ready = λ i. l .put-ready (given c i);
     take-none = λ e. ap (with-below c) (l .take-none e);
     take-first = l .take-first;

@@ -62,7 +62,8 @@ impl LossScript {
 
     // Keeps the entry, unless the script is full; answers whether it did.
     pub fn add(&mut self, entry: LossEntry) -> bool
-        ensures state { λ _. ⌜ script-state (now (self .exit)) ≡ pushed entries-kept (script-state (now (self .entry))) entry ⌝ }
+        ensures state { λ _. ⌜ script-state (now (self .exit))
+            ≡ pushed entries-kept (script-state (now (self .entry))) entry ⌝ }
         ensures answer { λ r. ⌜ r ≡ ltb (length (script-state (now (self .entry)))) entries-kept ⌝ }
     {
         self.entries.push(entry)

@@ -42,7 +42,8 @@ without-snoc k (y ∷ ys) x = go (eqb y k) (without-snoc k ys x)
     go true e = e
     go false e = ap (λ (z : List ℕ). y ∷ z) e
 
-turn-by : (k x : ℕ) (xs done : List ℕ) (b : Bool) → cond b (xs ++ done) ((xs ++ done) ++ (x ∷ [])) ≡ xs ++ (done ++ cond b [] (x ∷ []))
+turn-by : (k x : ℕ) (xs done : List ℕ) (b : Bool)
+    → cond b (xs ++ done) ((xs ++ done) ++ (x ∷ [])) ≡ xs ++ (done ++ cond b [] (x ∷ []))
 turn-by k x xs done true = ap (λ ys. xs ++ ys) (sym (append-nil done))
 turn-by k x xs done false = append-assoc xs done (x ∷ [])
 
@@ -53,9 +54,11 @@ turn k all now after i within is turned =
     let done = without k (take i all) in
     turned ∙ ap (passed-on k) is ∙ at-drop-more (λ ys. passed-on k (ys ++ done)) all i 0 within
     ∙ turn-by k x (drop (i + 1) all) done (eqb x k)
-    ∙ ap (λ ys. drop (i + 1) all ++ ys) (sym (ap (without k) (take-more all i 0 within) ∙ without-snoc k (take i all) x))
+    ∙ ap (λ ys. drop (i + 1) all ++ ys)
+    (sym (ap (without k) (take-more all i 0 within) ∙ without-snoc k (take i all) x))
 
-pub turned-all : (k : ℕ) (all now : List ℕ) (i : ℕ) → length all ≤ i → now ≡ drop i all ++ without k (take i all) → now ≡ without k all
+pub turned-all : (k : ℕ) (all now : List ℕ) (i : ℕ) → length all ≤ i → now ≡ drop i all ++ without k (take i all)
+    → now ≡ without k all
 turned-all k all now i past is =
     is ∙ at-drop-all (λ ys. ys ++ without k (take i all)) all i past ∙ ap (without k) (take-all i all past)
 

@@ -188,90 +188,46 @@ mark-sent f = record { sent = f .sent; due = false }
 abbrev pub corrected : Inflow → ℕ → Inflow
 corrected f k = record { got = 0; lost = f .lost; good = tallied (f .good) k }
 
--- a port with one part of it changed
-abbrev pub with-credit : Port → Credit → Port
-with-credit p x = record {
-  n = p .n;
-  credit = x;
-  buffers = p .buffers;
-  frames-out = p .frames-out;
-  rrdys-out = p .rrdys-out;
-  frames-in = p .frames-in;
-  rrdys-in = p .rrdys-in;
-  outbox = p .outbox;
+-- a port of these parts, and a port with one part of it changed
+abbrev pub port : ℕ → Credit → Buffers → Outflow → Outflow → Inflow → Inflow → Outbox → Port
+port n credit buffers frames-out rrdys-out frames-in rrdys-in outbox = record {
+  n = n;
+  credit = credit;
+  buffers = buffers;
+  frames-out = frames-out;
+  rrdys-out = rrdys-out;
+  frames-in = frames-in;
+  rrdys-in = rrdys-in;
+  outbox = outbox;
 }
+
+abbrev pub with-credit : Port → Credit → Port
+with-credit p x =
+    port (p .n) x (p .buffers) (p .frames-out) (p .rrdys-out) (p .frames-in) (p .rrdys-in) (p .outbox)
 
 abbrev pub with-buffers : Port → Buffers → Port
-with-buffers p x = record {
-  n = p .n;
-  credit = p .credit;
-  buffers = x;
-  frames-out = p .frames-out;
-  rrdys-out = p .rrdys-out;
-  frames-in = p .frames-in;
-  rrdys-in = p .rrdys-in;
-  outbox = p .outbox;
-}
+with-buffers p x =
+    port (p .n) (p .credit) x (p .frames-out) (p .rrdys-out) (p .frames-in) (p .rrdys-in) (p .outbox)
 
 abbrev pub with-frames-out : Port → Outflow → Port
-with-frames-out p x = record {
-  n = p .n;
-  credit = p .credit;
-  buffers = p .buffers;
-  frames-out = x;
-  rrdys-out = p .rrdys-out;
-  frames-in = p .frames-in;
-  rrdys-in = p .rrdys-in;
-  outbox = p .outbox;
-}
+with-frames-out p x =
+    port (p .n) (p .credit) (p .buffers) x (p .rrdys-out) (p .frames-in) (p .rrdys-in) (p .outbox)
 
 abbrev pub with-rrdys-out : Port → Outflow → Port
-with-rrdys-out p x = record {
-  n = p .n;
-  credit = p .credit;
-  buffers = p .buffers;
-  frames-out = p .frames-out;
-  rrdys-out = x;
-  frames-in = p .frames-in;
-  rrdys-in = p .rrdys-in;
-  outbox = p .outbox;
-}
+with-rrdys-out p x =
+    port (p .n) (p .credit) (p .buffers) (p .frames-out) x (p .frames-in) (p .rrdys-in) (p .outbox)
 
 abbrev pub with-frames-in : Port → Inflow → Port
-with-frames-in p x = record {
-  n = p .n;
-  credit = p .credit;
-  buffers = p .buffers;
-  frames-out = p .frames-out;
-  rrdys-out = p .rrdys-out;
-  frames-in = x;
-  rrdys-in = p .rrdys-in;
-  outbox = p .outbox;
-}
+with-frames-in p x =
+    port (p .n) (p .credit) (p .buffers) (p .frames-out) (p .rrdys-out) x (p .rrdys-in) (p .outbox)
 
 abbrev pub with-rrdys-in : Port → Inflow → Port
-with-rrdys-in p x = record {
-  n = p .n;
-  credit = p .credit;
-  buffers = p .buffers;
-  frames-out = p .frames-out;
-  rrdys-out = p .rrdys-out;
-  frames-in = p .frames-in;
-  rrdys-in = x;
-  outbox = p .outbox;
-}
+with-rrdys-in p x =
+    port (p .n) (p .credit) (p .buffers) (p .frames-out) (p .rrdys-out) (p .frames-in) x (p .outbox)
 
 abbrev pub with-outbox : Port → Outbox → Port
-with-outbox p x = record {
-  n = p .n;
-  credit = p .credit;
-  buffers = p .buffers;
-  frames-out = p .frames-out;
-  rrdys-out = p .rrdys-out;
-  frames-in = p .frames-in;
-  rrdys-in = p .rrdys-in;
-  outbox = x;
-}
+with-outbox p x =
+    port (p .n) (p .credit) (p .buffers) (p .frames-out) (p .rrdys-out) (p .frames-in) (p .rrdys-in) x
 
 -- a lost item changes nothing but the totals of the page
 abbrev pub missed : Port → Symbol → Port
@@ -302,15 +258,20 @@ frames-found p = min (lost-of (p .n) (p .frames-in .got)) (free (p .buffers))
 abbrev pub rrdys-found : Port → ℕ
 rrdys-found p = min (lost-of (p .n) (p .rrdys-in .got)) (p .credit .used)
 
--- a sound BB_SCs: as many R_RDYs more are owed
-abbrev pub frames-corrected : Port → Port
-frames-corrected p =
-    with-frames-in (with-buffers p (owing (p .buffers) (frames-found p))) (corrected (p .frames-in) (frames-found p))
+-- k frames made good: as many R_RDYs more are owed
+abbrev pub frames-made-good : Port → ℕ → Port
+frames-made-good p k = with-frames-in (with-buffers p (owing (p .buffers) k)) (corrected (p .frames-in) k)
 
--- a sound BB_SCr: as many credits are back
+-- k R_RDYs made good: as many credits are back
+abbrev pub rrdys-made-good : Port → ℕ → Port
+rrdys-made-good p k = with-rrdys-in (with-credit p (given-back (p .credit) k)) (corrected (p .rrdys-in) k)
+
+-- a sound BB_SCs, and a sound BB_SCr
+abbrev pub frames-corrected : Port → Port
+frames-corrected p = frames-made-good p (frames-found p)
+
 abbrev pub rrdys-corrected : Port → Port
-rrdys-corrected p =
-    with-rrdys-in (with-credit p (given-back (p .credit) (rrdys-found p))) (corrected (p .rrdys-in) (rrdys-found p))
+rrdys-corrected p = rrdys-made-good p (rrdys-found p)
 
 abbrev pub arrived : Port → Symbol → Port
 arrived p (symbol.Frame f) = frame-arrived p f

@@ -1,6 +1,17 @@
 // The calls on the buffers.
 ghost use Prim.Native.Nat.{ℕ, _<_, _≤_};
-ghost use Rattle.port.specs.Port.{among, answered, emptied, filled, free, is-full, lent-out, owing, passed-on, returned};
+ghost use Rattle.port.specs.Port.{
+  among,
+  answered,
+  emptied,
+  filled,
+  free,
+  is-full,
+  lent-out,
+  owing,
+  passed-on,
+  returned,
+};
 ghost use Rattle.port.specs.Port.{without};
 ghost use Rattle.port.specs.View.{buffers-of};
 ghost use Rattle.ring.specs.Contents.{contents};

@@ -22,7 +22,8 @@ module _ {T : Type 0} {n : ℕ} (r : Ring T n) where
   -- the k-th value stands at its place
   ring-at : (k at : ℕ) (d : T) → k < r .len → at ≡ place n (r .head) k → getD (contents r) k d ≡ getD (r .places) at d
   ring-at k at d l e =
-      window-at (r .places) n (r .head) (r .long) (r .«head_in») (r .len) k d (r .«len_in») l ∙ ap (λ i. getD (r .places) i d) (sym e)
+      window-at (r .places) n (r .head) (r .long) (r .«head_in») (r .len) k d (r .«len_in») l
+      ∙ ap (λ i. getD (r .places) i d) (sym e)
 
   ring-set : (k at : ℕ) (x : T) → k < r .len → at ≡ place n (r .head) k →
       window (set (r .places) at x) (r .head) (r .len) ≡ set (contents r) k x
@@ -36,7 +37,8 @@ module _ {T : Type 0} {n : ℕ} (r : Ring T n) where
       ap (λ i. window (set (r .places) i x) (r .head) (r .len + 1)) e
       ∙ window-push (r .places) n (r .head) (r .long) (r .«head_in») (r .len) x l
 
-  pub ring-rest : (head : ℕ) → 0 < r .len → head ≡ place n (r .head) 1 → window (r .places) head (r .len - 1) ≡ tail (contents r)
+  pub ring-rest : (head : ℕ) → 0 < r .len → head ≡ place n (r .head) 1
+      → window (r .places) head (r .len - 1) ≡ tail (contents r)
   ring-rest head l e =
       ap (λ h. window (r .places) h (r .len - 1)) e
       ∙ window-rest (r .places) n (r .head) (r .long) (r .«head_in») (r .len) (r .«len_in») l
@@ -53,7 +55,8 @@ module _ {T : Type 0} {n : ℕ} (r : Ring T n) (k at : ℕ) (x : T) (l : k < r .
       ∙ ap (λ c. c || any p (drop (k + 1) (contents r))) (ap p (ring-at r k at x l e) ∙ sym is)
 
   -- a pass over the values, one further
-  pub mapped-more : (f : T → T) (old : List T) (y : T) → length old ≡ r .len → contents r ≡ map f (take k old) ++ drop k old →
+  pub mapped-more : (f : T → T) (old : List T) (y : T) → length old ≡ r .len
+      → contents r ≡ map f (take k old) ++ drop k old →
       x ≡ getD (r .places) at x → y ≡ f (getD (r .places) at x) →
       window (set (r .places) at y) (r .head) (r .len) ≡ map f (take (k + 1) old) ++ drop (k + 1) old
   mapped-more f old y size inv is new =
@@ -61,7 +64,8 @@ module _ {T : Type 0} {n : ℕ} (r : Ring T n) (k at : ℕ) (x : T) (l : k < r .
       ∙ ap (set (contents r) k) (new ∙ ap f (sym is))
       ∙ map-over-more f old (contents r) k x (omega arith) inv (is ∙ sym (ring-at r k at x l e))
 
-pub mapped-all : {T : Type 0} (f : T → T) (k : ℕ) (old : List T) → length old ≤ k → map f (take k old) ++ drop k old ≡ map f old
+pub mapped-all : {T : Type 0} (f : T → T) (k : ℕ) (old : List T) → length old ≤ k
+    → map f (take k old) ++ drop k old ≡ map f old
 mapped-all f k old l =
     ap (λ xs. map f xs ++ drop k old) (take-all k old l)
     ∙ ap (λ ys. map f old ++ ys) (drop-all k old l)

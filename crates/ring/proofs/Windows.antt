@@ -6,8 +6,10 @@ use mathlib.Core.List.{List, [], _∷_, _++_}
 use native.Mathlib.Omega.{arith}
 use lib.Dec.{ltb}
 use lib.ListN.{length, drop, set, getD}
-use Rattle.std.proofs.shelf.Lists.{getD-take, getD-drop, getD-append-left, getD-append-right, getD-set-same, getD-set-other}
-use Rattle.std.proofs.shelf.Lists.{length-take, length-drop, length-append, length-set, same-lists, take-all, take-take, take-more-set}
+use Rattle.std.proofs.shelf.Lists.{getD-take, getD-drop, getD-append-left, getD-append-right, getD-set-same}
+use Rattle.std.proofs.shelf.Lists.{getD-set-other}
+use Rattle.std.proofs.shelf.Lists.{length-take, length-drop, length-append, length-set, same-lists, take-all}
+use Rattle.std.proofs.shelf.Lists.{take-take, take-more-set}
 use Rattle.std.proofs.shelf.Tests.{cases-lt, cases-eq, lt-ltb, le-ltb, cond-true, cond-false}
 use Rattle.std.proofs.shelf.Ways.{tells}
 use Rattle.ring.specs.Contents.{window, place}
@@ -45,7 +47,8 @@ module _ {X : Type 0} (xs : List X) (cap h : ℕ) (long : length xs ≡ cap) (wi
       past : cap - h ≤ k → getD (xs ++ xs) (h + k) d ≡ getD xs (place cap h k) d
       past e =
           getD-append-right xs xs cap (h + k) d long (omega arith)
-          ∙ ap (λ i. getD xs i d) (omega (arith, cond-false (ltb k (cap - h)) (h + k) (k - (cap - h)) (le-ltb k (cap - h) e)))
+          ∙ ap (λ i. getD xs i d)
+          (omega (arith, cond-false (ltb k (cap - h)) (h + k) (k - (cap - h)) (le-ltb k (cap - h) e)))
 
 module _ {X : Type 0} (xs : List X) (cap h : ℕ) (long : length xs ≡ cap) (within : h ≤ cap) where
   -- a write at the place of the k-th value
@@ -62,7 +65,8 @@ module _ {X : Type 0} (xs : List X) (cap h : ℕ) (long : length xs ≡ cap) (wi
       size = length-window xs cap h long within n b
 
       lengths : length (window (set xs (place cap h k) x) h n) ≡ length (set (window xs h n) k x)
-      lengths = length-window (set xs (place cap h k) x) cap h long′ within n b ∙ sym size ∙ sym (length-set (window xs h n) k x)
+      lengths = length-window (set xs (place cap h k) x) cap h long′ within n b ∙ sym size
+          ∙ sym (length-set (window xs h n) k x)
 
       each : (j : ℕ) (d : X) → j < length (window (set xs (place cap h k) x) h n) →
           getD (window (set xs (place cap h k) x) h n) j d ≡ getD (set (window xs h n) k x) j d
@@ -80,7 +84,8 @@ module _ {X : Type 0} (xs : List X) (cap h : ℕ) (long : length xs ≡ cap) (wi
           elsewhere : j ≢ k → getD (set xs (place cap h k) x) (place cap h j) d ≡ getD (set (window xs h n) k x) j d
           elsewhere ne =
               let m′ : j < n = omega (arith, length-window (set xs (place cap h k) x) cap h long′ within n b) in
-              getD-set-other xs (place cap h k) (place cap h j) x d (place-ne cap h j k within (omega arith) (omega arith) ne)
+              getD-set-other xs (place cap h k) (place cap h j) x d
+              (place-ne cap h j k within (omega arith) (omega arith) ne)
               ∙ sym (window-at xs cap h long within n j d b m′)
               ∙ sym (getD-set-other (window xs h n) k j x d ne)
 

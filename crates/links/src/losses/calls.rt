@@ -21,7 +21,8 @@ impl Losses {
 
     // Adds an entry to a direction's script; answers whether there is such a direction and its script kept it.
     pub fn add(&mut self, direction: u8, entry: LossEntry) -> bool
-        ensures state { λ _. ⌜ losses-state (now (self .exit)) ≡ with-loss (losses-state (now (self .entry))) direction entry ⌝ }
+        ensures state { λ _. ⌜ losses-state (now (self .exit))
+            ≡ with-loss (losses-state (now (self .entry))) direction entry ⌝ }
         ensures answer { λ r. ⌜ r ≡ keeps-loss (losses-state (now (self .entry))) direction ⌝ }
     {
         let at = direction as usize;

@@ -16,5 +16,6 @@ ghost-self c =
     let some : b .held + b .owed < b .all = omega (arith, λ (e : b .held + b .owed ≡ b .all). not-all e) in
     let room : length waiting < 32 = omega arith in
     let longer : length (contents (c .push .last .self)) ≡ length waiting + 1 =
-    ap length (c .push .ensures .state ∙ pushed-room 32 waiting (c .args .frame) room) ∙ length-push waiting (c .args .frame) in
+    ap length (c .push .ensures .state ∙ pushed-room 32 waiting (c .args .frame) room)
+    ∙ length-push waiting (c .args .frame) in
     (omega arith, (omega arith, (omega arith, (omega arith, tt))))

@@ -13,7 +13,8 @@ ghost-self-2 c =
     let out = contents (b .out) in
     let number = c .in-Some .frame .number in
     let less = ap length (c .pop .ensures .state) in
-    let some = length-tail (contents (b .waiting)) (c .in-Some .frame) (sym (c .in-Some .is) ∙ c .pop .ensures .answer) in
+    let some =
+    length-tail (contents (b .waiting)) (c .in-Some .frame) (sym (c .in-Some .is) ∙ c .pop .ensures .answer) in
     let room : length out < 32 = omega arith in
     let more : length (contents (c .push .last .self)) ≡ length out + 1 =
     ap length (c .push .ensures .state ∙ pushed-room 32 out number room) ∙ length-push out number in

@@ -8,7 +8,8 @@ use Rattle.port.proofs.Numbers.{fewer-without}
 use Rattle.port.proofs.Buffers.release.Needs as need
 
 fewer : (c : need.After-remove)
-    → length (without (c .args .number) (contents (c .args .self .now .out))) < length (contents (c .args .self .now .out))
+    → length (without (c .args .number) (contents (c .args .self .now .out))) < length
+    (contents (c .args .self .now .out))
 fewer c = fewer-without (c .args .number) (contents (c .args .self .now .out)) (sym (c .if-is-out .ensures tt))
 
 pub sub-self : need.sub-self

@@ -12,6 +12,7 @@ pub returns-in-Some : need.returns-in-Some
 returns-in-Some c =
     let r = c .args .numbers .now in
     let few : length (contents r) ≤ 32 = omega (arith, ring-length r) in
-    passed-kept (c .args .number) (c .in-Some .oldest) (contents r) (contents (c .pop .last .self)) (contents (c .push .last .self))
+    passed-kept (c .args .number) (c .in-Some .oldest) (contents r) (contents (c .pop .last .self))
+    (contents (c .push .last .self))
     (sym (c .in-Some .is) ∙ c .pop .ensures .answer) (c .pop .ensures .state)
     (ne-eqb (c .in-Some .oldest) (c .args .number) (c .if-oldest-number .taken)) few (c .push .ensures .state)

@@ -9,4 +9,5 @@ use Rattle.port.proofs.buffer_calls.remove.Given as given
 abbrev pub Inv-loop-turn : given.InvT-loop-turn
 Inv-loop-turn l =
     contents (l .numbers)
-    ≡ drop (l .-turn) (contents (l .entry .numbers)) ++ without (l .number) (take (l .-turn) (contents (l .entry .numbers)))
+    ≡ drop (l .-turn) (contents (l .entry .numbers)) ++ without (l .number)
+    (take (l .-turn) (contents (l .entry .numbers)))

@@ -7,7 +7,9 @@ use Rattle.ring.proofs.Ring.get.Needs as need
 
 pub returns : need.returns
 returns g c =
-    sym (ring-nth (c .args .self .now) (c .args .i) (c .place-at .result) (c .index-self-at .result) (omega arith) (c .place-at .ensures))
+    sym
+    (ring-nth (c .args .self .now) (c .args .i) (c .place-at .result) (c .index-self-at .result) (omega arith)
+    (c .place-at .ensures))
 
 pub returns-then-i-self : need.returns-then-i-self
 returns-then-i-self g c =

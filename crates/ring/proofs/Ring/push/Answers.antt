@@ -11,7 +11,8 @@ returns g c =
     let r = c .args .self .now in
     let less = lt-ltb (length (contents r)) (g .N) (omega (arith, ring-length r)) in
     record {
-      state = ring-push r (c .place-at .result) (c .args .x) (c .if-self .left) (c .place-at .ensures) ∙ sym (cond-true _ _ _ less);
+      state = ring-push r (c .place-at .result) (c .args .x) (c .if-self .left) (c .place-at .ensures)
+          ∙ sym (cond-true _ _ _ less);
       answer = sym less;
     }
 

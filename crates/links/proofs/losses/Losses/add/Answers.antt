@@ -19,10 +19,12 @@ returns c =
     record {
       state =
           map-set script-state (l .scripts) d (c .add-kept .last .self)
-          ∙ ap (set (losses-state l) d) (c .add-kept .ensures .state ∙ ap (λ es. pushed entries-kept es (c .args .entry)) before);
+          ∙ ap (set (losses-state l) d)
+          (c .add-kept .ensures .state ∙ ap (λ es. pushed entries-kept es (c .args .entry)) before);
       answer =
           c .add-kept .ensures .answer
-          ∙ ap₂ (λ b es. b && ltb (length es) entries-kept) (sym (lt-ltb d directions-scripted (c .if-at-ge-DIRECTIONS .left))) before;
+          ∙ ap₂ (λ b es. b && ltb (length es) entries-kept)
+          (sym (lt-ltb d directions-scripted (c .if-at-ge-DIRECTIONS .left))) before;
     }
 
 pub returns-then-at-ge-DIRECTIONS : need.returns-then-at-ge-DIRECTIONS
@@ -32,5 +34,8 @@ returns-then-at-ge-DIRECTIONS c =
     let past = c .if-at-ge-DIRECTIONS .taken in
     record {
       state = sym (loss-nowhere l d (c .args .entry) past);
-      answer = sym (ap (λ b. b && ltb (length (script-at (losses-state l) d)) entries-kept) (le-ltb d directions-scripted past));
+      answer =
+          sym
+          (ap (λ b. b && ltb (length (script-at (losses-state l) d)) entries-kept)
+          (le-ltb d directions-scripted past));
     }

@@ -4,7 +4,9 @@ use Rattle.links.proofs.losses.Losses.script.Needs as need
 
 pub returns-then-at-lt-DIRECTIONS : need.returns-then-at-lt-DIRECTIONS
 returns-then-at-lt-DIRECTIONS c =
-    sym (script-here (c .args .self .now) (c .args .direction) (c .index-self-at .result) (c .if-at-lt-DIRECTIONS .taken))
+    sym
+    (script-here (c .args .self .now) (c .args .direction) (c .index-self-at .result)
+    (c .if-at-lt-DIRECTIONS .taken))
 
 pub returns-else-at-lt-DIRECTIONS : need.returns-else-at-lt-DIRECTIONS
 returns-else-at-lt-DIRECTIONS c =

@@ -1,0 +1,9 @@
+use mathlib.Core.Path.{refl}
+use Rattle.model.proofs.Laws.{start-continues}
+use Rattle.chain.specs.View.{chain-of}
+use Rattle.chain.proofs.cabling.Chain+B+Cabled.start.Needs as need
+
+pub returns : need.returns
+returns g c =
+    let self = chain-of (g .B·Bank .model) (c .args .self .inner) in
+    record { state = refl; run = start-continues (g .B·Bank .calls) (g .B·Bank·met .lawful) self self refl }

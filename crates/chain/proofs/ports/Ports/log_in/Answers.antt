@@ -1,0 +1,6 @@
+use borrow.Author.Needs.{needs}
+use Rattle.std.proofs.shelf.Lists.{map-set, getD-map}
+use Rattle.chain.proofs.ports.Ports.log_in.Needs as need
+
+pub returns : need.returns
+returns c = search (needs, map-set, getD-map)

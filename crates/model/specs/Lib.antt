@@ -1,0 +1,12 @@
+pub mod Refusals
+pub mod Chain
+pub mod Run
+pub mod Figures
+pub mod Stretches
+pub mod CreditSum
+pub mod WholeParts
+pub mod OnePlace
+pub mod RecordsTell
+pub mod Laws
+pub mod Sizes
+pub mod Worked
