@@ -1,4 +1,6 @@
 // A bank holds channels under numbers from 0.
+#![tactic(auto)]
+
 ghost use Rattle.bank.specs.Bank.{BankCalls, LawfulBank, count, letter_at};
 ghost use Rattle.channel.specs.Calls.{handed, idle};
 ghost use Rattle.std.specs.Prelude.{◌≡◌};

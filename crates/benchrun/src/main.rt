@@ -1,4 +1,5 @@
 // benchrun: one job over a chain of two links, from its cabling to its end, and what was logged of it.
+#![tactic(auto)]
 
 use bank::Bank;
 use bank::pair::Pair;

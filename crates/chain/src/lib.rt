@@ -1,4 +1,6 @@
 // A chain of links over any bank: first cabled, then running, then draining.
+#![tactic(auto)]
+
 pub mod cabling;
 pub mod inner;
 pub mod moving;

@@ -1,4 +1,6 @@
 // Cases of chains, run beside the proofs.
+#![tactic(auto)]
+
 #[cfg(test)]
 mod refusals;
 #[cfg(test)]

@@ -1,4 +1,6 @@
 // What every channel means, and two kinds of channel.
+#![tactic(auto)]
+
 ghost use Rattle.std.specs.Prelude.{◌≡◌, ℕ};
 ghost use Rattle.channel.specs.Calls.{Calls, Lawful, handed, idle};
 

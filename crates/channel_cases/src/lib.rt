@@ -1,4 +1,6 @@
 // Cases of channels and banks, run beside the proofs.
+#![tactic(auto)]
+
 use channel::Channel;
 use channel::wire::Wire;
 use loss::ScriptedLoss;

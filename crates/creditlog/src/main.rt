@@ -1,4 +1,5 @@
 // creditlog: a log in words, or the totals of its ports.
+#![tactic(auto)]
 
 use listing::part::list_part;
 use reader::reader::Reader;

@@ -1,5 +1,7 @@
 // A gate lets one item through at a time, a step after its put, and that step notes every second item lost.
 // It has space only when idle. It shows that the laws of a channel allow more than wires and delay rings.
+#![tactic(auto)]
+
 ghost use Rattle.gate.specs.Gate.{gate, open_gate};
 ghost use Rattle.gate.specs.declared.Gate.{Gate};
 ghost use Rattle.std.specs.Prelude.{◌≡◌};

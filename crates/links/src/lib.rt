@@ -1,4 +1,6 @@
 // The banks of one link and of three, with scripted loss over every direction.
+#![tactic(auto)]
+
 ghost use Rattle.bank.specs.Bank.{AllIdle};
 ghost use Rattle.bank.specs.States.{both};
 ghost use Rattle.links.specs.Links.{link_state, one_link_state, ring_link_state, three_links_state, three_state};

@@ -1,4 +1,6 @@
 // Cases of written and damaged logs, run beside the proofs.
+#![tactic(auto)]
+
 #[cfg(test)]
 mod cases;
 #[cfg(test)]

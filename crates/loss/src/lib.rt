@@ -1,4 +1,6 @@
 // Scripted loss over any channel: the puts that a script names are noted lost.
+#![tactic(auto)]
+
 ghost use Rattle.loss.specs.Loss.{Lossy, lossy, started};
 ghost use Rattle.loss.specs.States.{lossy_state, script_state};
 ghost use Rattle.std.specs.Prelude.{◌≡◌};

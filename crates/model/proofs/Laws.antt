@@ -213,7 +213,7 @@ module _ {B : Type 0} (M : BankCalls B) (law : (b : B) → LawfulBank M b) where
     way_told : (e : End) → 0 < c.links → WayTold c l e
     way_told e some = record {
       injected_is = injected_is e some;
-      collected-is = (port_told (end_port c (opposite e)) (end_below c (opposite e) some)).handed_is;
+      collected_is = (port_told (end_port c (opposite e)) (end_below c (opposite e) some)).handed_is;
       lost_is = links_same _ _ c.links (λ i z. (port_told (taker c e i) (taker_below e i z)).frames_lost);
     }
 

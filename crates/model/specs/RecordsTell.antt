@@ -58,7 +58,7 @@ module _ {B : Type 0} where
   -- what the page says of the way from an end
   pub record WayTold (c : Chain B) (l : Log) (e : End) : Type 0 where
     pub injected_is : (port_at_end c e).outbox.injected ≡ length (injected (end_port c e) l)
-    pub collected-is :
+    pub collected_is :
         (port_at_end c (opposite e)).buffers.handed ≡ length (collected (end_port c (opposite e)) l)
     pub lost_is : way_lost c e ≡ way_reported c l e
 

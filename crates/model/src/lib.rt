@@ -1,4 +1,5 @@
 // A chain as pure functions over any bank, and the laws of every run.
+#![tactic(auto)]
 
 ghost use Rattle.model.specs.Refusals.{refusal_number};
 ghost use Rattle.std.specs.Prelude.{◌≡◌};

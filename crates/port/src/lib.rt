@@ -1,4 +1,6 @@
 // One port: its credit, its buffers, its counted streams and its outbox, which their types keep within their bounds.
+#![tactic(auto)]
+
 ghost use Rattle.std.specs.Prelude.{◌+◌, ◌^◌, ◌<◌, ◌≤◌, length};
 ghost use Rattle.ring.specs.Contents.{contents};
 

@@ -1,4 +1,6 @@
 // A queue of at most N values, oldest first, in a fixed array.
+#![tactic(auto)]
+
 ghost use Rattle.std.specs.Prelude.{◌≡◌, ◌≤◌, length};
 
 pub mod each;

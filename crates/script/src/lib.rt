@@ -1,4 +1,6 @@
 // The script of the bench: its lines, words and commands, and whether it may be played.
+#![tactic(auto)]
+
 mod arguments;
 pub mod command;
 pub mod cursor;

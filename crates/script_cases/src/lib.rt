@@ -1,4 +1,6 @@
 // Cases of scripts, run beside the proofs.
+#![tactic(auto)]
+
 #[cfg(test)]
 mod commands;
 #[cfg(test)]

@@ -1,4 +1,5 @@
 // What travels on a link.
+#![tactic(auto)]
 
 ghost use Rattle.symbol.specs.Symbols.{LettersTellKinds, kind_of, kind_with, letter, noted_lost};
 ghost use Rattle.std.specs.Prelude.{◌≡◌};
