@@ -3,10 +3,10 @@ use Rattle.std.proofs.Common.{◌≡◌, ℕ, ◌+◌, ◌-◌, ◌≤◌, ◌&&
 use Rattle.std.proofs.lemmas.List.{take-append-drop}
 use Rattle.std.proofs.lemmas.Bool.{le-leb}
 use Rattle.symbol.specs.declared.Frame.{Frame}
-use Rattle.log.specs.declared.event.Event.{Event}
-use Rattle.log.specs.Format.{encode, encode_all}
-use Rattle.log.specs.Sheet.{Sheet, splice, written, logged}
-use Rattle.log.proofs.Sheets.{logged_whole}
+use Rattle.eventlog.specs.declared.event.Event.{Event}
+use Rattle.eventlog.specs.Format.{encode, encode_all}
+use Rattle.eventlog.specs.Sheet.{Sheet, splice, written, logged}
+use Rattle.eventlog.proofs.Sheets.{logged_whole}
 use Rattle.port.specs.Port.{Turn}
 use Rattle.bank.specs.Bank.{BankCalls}
 use Rattle.model.specs.declared.End.{End}

@@ -1,6 +1,6 @@
 -- What an act of a chain leaves: the chain, and the sheet with its records.
 use Rattle.std.specs.Prelude.{◌≡◌}
-use Rattle.log.specs.Sheet.{Sheet, logged}
+use Rattle.eventlog.specs.Sheet.{Sheet, logged}
 use Rattle.port.specs.Port.{Turn}
 
 -- a turn that found one sheet and left another

@@ -1,8 +1,8 @@
 -- What a call of a chain leaves: the chain, the sheet and the answer.
 use Rattle.std.specs.Prelude.{◌≡◌, ℕ, ◌+◌, ◌-◌, ◌*◌, cond, List, length, Some, None, Ok, Err, Option, Result, nat_lt}
 use Rattle.symbol.specs.declared.Frame.{Frame}
-use Rattle.log.specs.Format.{encode_all}
-use Rattle.log.specs.Sheet.{splice}
+use Rattle.eventlog.specs.Format.{encode_all}
+use Rattle.eventlog.specs.Sheet.{splice}
 use Rattle.port.specs.Figures.{figures_of}
 use Rattle.port.specs.Port.{Turn}
 use Rattle.port.specs.declared.figures.Figures.{Figures}

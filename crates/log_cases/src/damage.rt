@@ -1,8 +1,8 @@
 // Each record of the worked run with each of its bits turned: it is refused, or says something else.
 
-use log::event::Event;
-use log::worked::fourth_tick;
-use log::write::write_event;
+use eventlog::event::Event;
+use eventlog::worked::fourth_tick;
+use eventlog::write::write_event;
 use reader::reader::Reader;
 use reader::record::{BadRecord, Placed};
 use std::process::Abort;

@@ -1,8 +1,8 @@
 // Records written to sheets with room and without.
 
-use log::event::{Event, ItemKind};
-use log::worked::fourth_tick;
-use log::write::{write_event, write_events};
+use eventlog::event::{Event, ItemKind};
+use eventlog::worked::fourth_tick;
+use eventlog::write::{write_event, write_events};
 use std::test::*;
 use symbol::{Frame, Symbol};
 

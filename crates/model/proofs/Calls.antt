@@ -3,8 +3,8 @@ use Rattle.std.proofs.Common.{◌≡◌, ℕ, zero, suc, ◌+◌, ◌-◌, ◌*�
 use mathlib.Core.Path.{transport}
 use Rattle.std.proofs.lemmas.Bool.{cond-true}
 use Rattle.symbol.specs.declared.Frame.{Frame}
-use Rattle.log.specs.declared.event.Event.TheVariants as event
-use Rattle.log.specs.declared.event.FrameKind.TheVariants.{Freed, Injected, Collected}
+use Rattle.eventlog.specs.declared.event.Event.TheVariants as event
+use Rattle.eventlog.specs.declared.event.FrameKind.TheVariants.{Freed, Injected, Collected}
 use Rattle.bank.specs.Bank.{BankCalls, LawfulBank}
 use Rattle.port.specs.Port.{next_frame, freed_of, Port, Buffers, Turn, and_then, with_buffers, lent_out, injected_at}
 use Rattle.port.specs.Port.{among}

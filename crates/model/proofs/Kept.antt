@@ -11,9 +11,9 @@ use Rattle.symbol.specs.declared.Note.{Note}
 use Rattle.symbol.specs.declared.Note.TheVariants.{Sound, Lost}
 use Rattle.symbol.specs.declared.Symbol.{Symbol}
 use Rattle.symbol.specs.declared.Symbol.TheVariants as symbol
-use Rattle.log.specs.declared.event.Event.TheVariants as event
-use Rattle.log.specs.declared.event.FrameKind.TheVariants.{Freed}
-use Rattle.log.specs.declared.event.ItemKind.TheVariants.{Put, Got}
+use Rattle.eventlog.specs.declared.event.Event.TheVariants as event
+use Rattle.eventlog.specs.declared.event.FrameKind.TheVariants.{Freed}
+use Rattle.eventlog.specs.declared.event.ItemKind.TheVariants.{Put, Got}
 use Rattle.bank.specs.Bank.{BankCalls, LawfulBank}
 use Rattle.port.specs.Port.{Port, Outbox, Turn, new_port, with_buffers, emptied, unsent, frame_of, sent_on, received}
 use Rattle.port.specs.Port.{has_sent, after_send, frame_held, credit_back, frames_found, rrdys_found}

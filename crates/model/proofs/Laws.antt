@@ -4,8 +4,8 @@ use Rattle.std.specs.List.{AllByRecursion as All}
 use Rattle.symbol.specs.declared.Frame.{Frame}
 use Rattle.symbol.specs.declared.Symbol.{Symbol}
 use Rattle.symbol.specs.declared.Symbol.TheVariants as symbol
-use Rattle.log.specs.declared.event.Event.TheVariants as event
-use Rattle.log.specs.declared.event.ItemKind.TheVariants.{Got}
+use Rattle.eventlog.specs.declared.event.Event.TheVariants as event
+use Rattle.eventlog.specs.declared.event.ItemKind.TheVariants.{Got}
 use Rattle.reader.specs.Reading.{WellFormed}
 use Rattle.bank.specs.Bank.{BankCalls, LawfulBank}
 use Rattle.port.specs.Port.{Turn, no_act}

@@ -9,9 +9,9 @@ use Rattle.symbol.specs.declared.Note.{Note}
 use Rattle.symbol.specs.declared.Note.TheVariants.{Sound, Lost}
 use Rattle.symbol.specs.declared.Symbol.{Symbol}
 use Rattle.symbol.specs.declared.Symbol.TheVariants as symbol
-use Rattle.log.specs.declared.event.Event.TheVariants as event
-use Rattle.log.specs.declared.event.FrameKind.TheVariants.{Freed}
-use Rattle.log.specs.declared.event.ItemKind.TheVariants.{Put, Got, Lost as Missed}
+use Rattle.eventlog.specs.declared.event.Event.TheVariants as event
+use Rattle.eventlog.specs.declared.event.FrameKind.TheVariants.{Freed}
+use Rattle.eventlog.specs.declared.event.ItemKind.TheVariants.{Put, Got, Lost as Missed}
 use Rattle.port.specs.Port.{Port, Outflow, lost_of, missed, arrived, received, receive_events, correction, has_sent}
 use Rattle.port.specs.Port.{frame_held, is_full, credit_back, frames_found, rrdys_found, frames_corrected}
 use Rattle.port.specs.Port.{rrdys_corrected, frames_made_good, rrdys_made_good, with_buffers, emptied}

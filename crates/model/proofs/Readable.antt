@@ -12,11 +12,11 @@ use Rattle.symbol.specs.declared.Note.{Note}
 use Rattle.symbol.specs.declared.Note.TheVariants.{Sound, Lost}
 use Rattle.symbol.specs.declared.Symbol.{Symbol}
 use Rattle.symbol.specs.declared.Symbol.TheVariants as symbol
-use Rattle.log.specs.declared.event.Event.TheVariants as event
-use Rattle.log.specs.declared.event.FrameKind.{FrameKind}
-use Rattle.log.specs.declared.event.FrameKind.TheVariants.{Freed}
-use Rattle.log.specs.declared.event.ItemKind.{ItemKind}
-use Rattle.log.specs.declared.event.ItemKind.TheVariants.{Put, Got, Lost as Missed}
+use Rattle.eventlog.specs.declared.event.Event.TheVariants as event
+use Rattle.eventlog.specs.declared.event.FrameKind.{FrameKind}
+use Rattle.eventlog.specs.declared.event.FrameKind.TheVariants.{Freed}
+use Rattle.eventlog.specs.declared.event.ItemKind.{ItemKind}
+use Rattle.eventlog.specs.declared.event.ItemKind.TheVariants.{Put, Got, Lost as Missed}
 use Rattle.reader.specs.Reading.{WellFormed}
 use Rattle.bank.specs.Bank.{BankCalls, LawfulBank}
 use Rattle.port.specs.Port.{Port, Turn, and_then, logged_in, lost_of, frames_found, rrdys_found, correction, is_full}

@@ -9,10 +9,10 @@ use Rattle.symbol.specs.declared.Note.{Note}
 use Rattle.symbol.specs.declared.Note.TheVariants.{Sound, Lost}
 use Rattle.symbol.specs.declared.Symbol.{Symbol}
 use Rattle.symbol.specs.declared.Symbol.TheVariants as symbol
-use Rattle.log.specs.declared.event.Event.{Event}
-use Rattle.log.specs.declared.event.Event.TheVariants as event
-use Rattle.log.specs.declared.event.FrameKind.TheVariants.{Freed}
-use Rattle.log.specs.declared.event.ItemKind.TheVariants.{Put, Got, Lost as Missed}
+use Rattle.eventlog.specs.declared.event.Event.{Event}
+use Rattle.eventlog.specs.declared.event.Event.TheVariants as event
+use Rattle.eventlog.specs.declared.event.FrameKind.TheVariants.{Freed}
+use Rattle.eventlog.specs.declared.event.ItemKind.TheVariants.{Put, Got, Lost as Missed}
 use Rattle.port.specs.Port.{Port, frames_found, rrdys_found}
 use Rattle.model.specs.Run.{Log}
 use Rattle.model.specs.Figures.{is_at, records}

@@ -6,8 +6,8 @@ use Rattle.std.proofs.lemmas.Bool.{false≢true, eqb-false, cases_eq, leb-true, 
 use Rattle.ring.specs.Queue.{head?, tail, empty}
 use Rattle.symbol.specs.declared.Frame.{Frame}
 use Rattle.symbol.specs.declared.Item.{Item}
-use Rattle.log.specs.declared.event.Event.TheVariants as event
-use Rattle.log.specs.declared.event.FrameKind.TheVariants.{Freed}
+use Rattle.eventlog.specs.declared.event.Event.TheVariants as event
+use Rattle.eventlog.specs.declared.event.FrameKind.TheVariants.{Freed}
 use Rattle.bank.specs.Bank.{BankCalls, LawfulBank, count}
 use Rattle.port.specs.Port.{freed_of, Port, Turn, no_act, among, handed_out, released, injected_at, logged_in}
 use Rattle.port.specs.Port.{new_port}

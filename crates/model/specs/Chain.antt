@@ -6,10 +6,10 @@ use Rattle.symbol.specs.declared.Item.{Item}
 use Rattle.symbol.specs.declared.Note.TheVariants.{Sound}
 use Rattle.symbol.specs.declared.Symbol.{Symbol}
 use Rattle.symbol.specs.declared.Symbol.TheVariants as symbol
-use Rattle.log.specs.declared.event.Event.{Event}
-use Rattle.log.specs.declared.event.Event.TheVariants as event
-use Rattle.log.specs.declared.event.FrameKind.TheVariants.{Freed, Injected, Collected}
-use Rattle.log.specs.declared.event.ItemKind.TheVariants.{Put}
+use Rattle.eventlog.specs.declared.event.Event.{Event}
+use Rattle.eventlog.specs.declared.event.Event.TheVariants as event
+use Rattle.eventlog.specs.declared.event.FrameKind.TheVariants.{Freed, Injected, Collected}
+use Rattle.eventlog.specs.declared.event.ItemKind.TheVariants.{Put}
 use Rattle.channel.specs.Calls.{handed, idle}
 use Rattle.bank.specs.Bank.{BankCalls, count}
 use Rattle.port.specs.Port.{Port, Turn, no_act, and_then, new_port, logged_in, received, correction, receive_events}

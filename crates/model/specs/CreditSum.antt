@@ -2,8 +2,8 @@
 use Rattle.std.specs.Prelude.{◌≡◌, ℕ, ◌+◌, ◌*◌, ◌<◌, ◌≤◌, ◌∷◌, ◌++◌}
 use Rattle.symbol.specs.declared.Frame.{Frame}
 use Rattle.symbol.specs.declared.Symbol.TheVariants as symbol
-use Rattle.log.specs.declared.event.Event.TheVariants as event
-use Rattle.log.specs.declared.event.ItemKind.TheVariants.{Got}
+use Rattle.eventlog.specs.declared.event.Event.TheVariants as event
+use Rattle.eventlog.specs.declared.event.ItemKind.TheVariants.{Got}
 use Rattle.bank.specs.Bank.{BankCalls}
 use Rattle.model.specs.Chain.{Chain, facing, port_of, on}
 use Rattle.model.specs.Run.{Log}

@@ -5,13 +5,13 @@ use Rattle.symbol.specs.declared.Frame.{Frame}
 use Rattle.symbol.specs.declared.Mark.TheVariants.{BbScS, BbScR}
 use Rattle.symbol.specs.declared.Symbol.{Symbol}
 use Rattle.symbol.specs.declared.Symbol.TheVariants as symbol
-use Rattle.log.specs.Format.{frame_kind, item_kind}
-use Rattle.log.specs.declared.event.Event.{Event}
-use Rattle.log.specs.declared.event.Event.TheVariants as event
-use Rattle.log.specs.declared.event.FrameKind.{FrameKind}
-use Rattle.log.specs.declared.event.FrameKind.TheVariants.{Freed, Injected, Collected}
-use Rattle.log.specs.declared.event.ItemKind.{ItemKind}
-use Rattle.log.specs.declared.event.ItemKind.TheVariants.{Put, Got, Lost}
+use Rattle.eventlog.specs.Format.{frame_kind, item_kind}
+use Rattle.eventlog.specs.declared.event.Event.{Event}
+use Rattle.eventlog.specs.declared.event.Event.TheVariants as event
+use Rattle.eventlog.specs.declared.event.FrameKind.{FrameKind}
+use Rattle.eventlog.specs.declared.event.FrameKind.TheVariants.{Freed, Injected, Collected}
+use Rattle.eventlog.specs.declared.event.ItemKind.{ItemKind}
+use Rattle.eventlog.specs.declared.event.ItemKind.TheVariants.{Put, Got, Lost}
 use Rattle.model.specs.Run.{Log}
 
 -- the counted streams: frames, with their mark BB_SCs, and R_RDYs, with their mark BB_SCr

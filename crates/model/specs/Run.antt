@@ -1,6 +1,6 @@
 -- The runs of a chain.
 use Rattle.std.specs.Prelude.{ℕ, List, [], ◌++◌}
-use Rattle.log.specs.declared.event.Event.{Event}
+use Rattle.eventlog.specs.declared.event.Event.{Event}
 use Rattle.bank.specs.Bank.{BankCalls}
 use Rattle.model.specs.declared.End.{End}
 use Rattle.model.specs.Chain.{Chain, cabled, logins, injects, steps, collects, releases}

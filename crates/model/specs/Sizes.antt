@@ -1,7 +1,7 @@
 -- The bytes that the records of a call take.
 use Rattle.std.specs.Prelude.{◌≡◌, ℕ, ◌≤◌, length, Ok}
 use Rattle.symbol.specs.declared.Frame.{Frame}
-use Rattle.log.specs.Format.{encode_all}
+use Rattle.eventlog.specs.Format.{encode_all}
 use Rattle.bank.specs.Bank.{BankCalls}
 use Rattle.port.specs.Port.{Turn}
 use Rattle.model.specs.declared.End.{End}

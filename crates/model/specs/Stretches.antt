@@ -1,9 +1,9 @@
 -- The stretches of a counted stream, cut out of what was put on a direction.
 use Rattle.std.specs.Prelude.{ℕ, ◌+◌, ◌-◌, List, [], ◌∷◌, ◌++◌}
 use Rattle.symbol.specs.declared.Symbol.{Symbol}
-use Rattle.log.specs.declared.event.Event.{Event}
-use Rattle.log.specs.declared.event.Event.TheVariants as event
-use Rattle.log.specs.declared.event.ItemKind.TheVariants.{Put, Got, Lost}
+use Rattle.eventlog.specs.declared.event.Event.{Event}
+use Rattle.eventlog.specs.declared.event.Event.TheVariants as event
+use Rattle.eventlog.specs.declared.event.ItemKind.TheVariants.{Put, Got, Lost}
 use Rattle.model.specs.Chain.{facing}
 use Rattle.model.specs.Run.{Log}
 use Rattle.model.specs.Figures.{Stream, Role, counted, mark, other, role, records, puts}

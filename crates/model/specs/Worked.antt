@@ -1,9 +1,9 @@
 -- Runs that were worked out by hand, over the banks of one link and of three.
 use Rattle.std.specs.Prelude.{◌≡◌, ℕ, zero, suc, cond, List, [], ◌∷◌, ◌==◌}
 use Rattle.symbol.specs.declared.SymbolKind.TheVariants.{Frame}
-use Rattle.log.specs.Format.{encode_all}
-use Rattle.log.specs.Worked.{fourth_tick}
-use Rattle.log.specs.declared.event.Event.TheVariants as event
+use Rattle.eventlog.specs.Format.{encode_all}
+use Rattle.eventlog.specs.Worked.{fourth_tick}
+use Rattle.eventlog.specs.declared.event.Event.TheVariants as event
 use Rattle.bank.specs.Bank.{BankCalls}
 use Rattle.loss.specs.declared.script.LossEntry.{LossEntry}
 use Rattle.links.specs.Links.{WireStates, RingStates, one_link, three_links, lossy_wires, lossy_three_links}

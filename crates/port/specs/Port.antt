@@ -7,9 +7,9 @@ use Rattle.symbol.specs.declared.Note.{Note}
 use Rattle.symbol.specs.declared.Note.TheVariants.{Sound, Lost}
 use Rattle.symbol.specs.declared.Symbol.{Symbol}
 use Rattle.symbol.specs.declared.Symbol.TheVariants as symbol
-use Rattle.log.specs.declared.event.Event.{Event}
-use Rattle.log.specs.declared.event.Event.TheVariants as event
-use Rattle.log.specs.declared.event.ItemKind.TheVariants.{Got, Lost as Missed}
+use Rattle.eventlog.specs.declared.event.Event.{Event}
+use Rattle.eventlog.specs.declared.event.Event.TheVariants as event
+use Rattle.eventlog.specs.declared.event.ItemKind.TheVariants.{Got, Lost as Missed}
 
 -- a counted stream, as its sender keeps it: how many were sent modulo 2^N, and whether its mark is due
 pub record Outflow : Type 0 where

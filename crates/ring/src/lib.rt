@@ -1,14 +1,16 @@
 // A queue of at most N values, oldest first, in a fixed array.
 #![tactic(auto)]
 
-ghost use Rattle.std.specs.Prelude.{◌≡◌, ◌≤◌, length};
+ghost use Rattle.std.specs.Prelude.{◌≡◌, ◌≤◌, length, ⊤};
+
+use std::alloc::AllocError;
 
 pub mod each;
 pub mod queue;
 pub mod size;
 
 // The values stand at `len` places from `head` on; the first place follows the last.
-#[derive(Clone, Copy)]
+#[derive(Copy)]
 pub struct Ring<T, const N: usize> {
     places: [T; N],
     head: usize,
@@ -16,4 +18,14 @@ pub struct Ring<T, const N: usize> {
     ghost long: { length places ≡ N },
     ghost head_in: { head ≤ N },
     ghost len_in: { len ≤ N },
+}
+
+impl<T: Copy, const N: usize> Clone for Ring<T, N> {
+    ghost is_clone = { λ ring copy. copy ≡ ring };
+
+    ghost is_infallible = { λ _. ⊤ };
+
+    fn clone(&self) -> Result<Self, AllocError> {
+        Ok(*self)
+    }
 }

@@ -9,8 +9,8 @@ ghost use Rattle.port.specs.Port.{box_full};
 use super::Inner;
 use crate::token::Token;
 use bank::Bank;
-use log::event::{Event, FrameKind};
-use log::write::write_event;
+use eventlog::event::{Event, FrameKind};
+use eventlog::write::write_event;
 use model::{End, Refusal};
 use symbol::Frame;
 

@@ -1,7 +1,7 @@
 // A step of a chain.
 ghost use Rattle.std.specs.Prelude.{◌≡◌, ◌*◌, ◌<◌, ◌≤◌, MatchOption};
 ghost use Rattle.chain.specs.Acts.{Acted};
-ghost use Rattle.log.specs.Sheet.{Sheet, logged};
+ghost use Rattle.eventlog.specs.Sheet.{Sheet, logged};
 ghost use Rattle.chain.specs.Calls.{Step};
 ghost use Rattle.chain.specs.View.{chain_of};
 ghost use Rattle.model.specs.Chain.{drawn, each_port, freed_events, sends, source, step_bytes, step_refusal};
@@ -11,8 +11,8 @@ use super::Inner;
 use super::links::{behind, facing};
 use crate::write::write_taken;
 use bank::Bank;
-use log::event::{Event, FrameKind, ItemKind};
-use log::write::write_event;
+use eventlog::event::{Event, FrameKind, ItemKind};
+use eventlog::write::write_event;
 use model::Refusal;
 use symbol::{Frame, Item, Note, Symbol};
 

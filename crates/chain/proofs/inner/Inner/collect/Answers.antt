@@ -1,6 +1,6 @@
 use Rattle.std.proofs.Common.{◌≡◌, ◌+◌, ◌-◌, ◌≤◌, length, Ok, Err, sym, ap, ◌∙◌, arith, rules}
 use Rattle.std.proofs.lemmas.Result.{err_from_is_err_and}
-use Rattle.log.specs.Format.{encode_all}
+use Rattle.eventlog.specs.Format.{encode_all}
 use Rattle.model.specs.Chain.{call_bytes, collectable, collects_by}
 use Rattle.chain.specs.View.{chain_of}
 use Rattle.chain.proofs.Called.{refused_collect, made_collect, wrote}

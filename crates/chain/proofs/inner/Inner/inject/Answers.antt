@@ -1,5 +1,5 @@
 use Rattle.std.proofs.Common.{◌+◌, ◌-◌, ◌≤◌, length, Ok, ap, ◌∙◌, arith, rules}
-use Rattle.log.specs.Format.{encode_all}
+use Rattle.eventlog.specs.Format.{encode_all}
 use Rattle.model.specs.Chain.{answer, call_bytes, inject_refusal, injected}
 use Rattle.chain.specs.View.{chain_of}
 use Rattle.chain.proofs.Called.{refused_call, made_call, wrote}

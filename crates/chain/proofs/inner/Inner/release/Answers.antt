@@ -1,5 +1,5 @@
 use Rattle.std.proofs.Common.{◌+◌, ◌-◌, ◌≤◌, length, Ok, ap, ◌∙◌, arith, rules}
-use Rattle.log.specs.Format.{encode_all}
+use Rattle.eventlog.specs.Format.{encode_all}
 use Rattle.model.specs.Chain.{call_bytes, release_refusal, released_at}
 use Rattle.chain.specs.Calls.{handed_back}
 use Rattle.chain.specs.View.{chain_of}

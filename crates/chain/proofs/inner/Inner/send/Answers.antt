@@ -1,7 +1,7 @@
 use Rattle.std.proofs.Common.{[], ◌∷◌, rules}
 use Rattle.std.proofs.lemmas.List.{set-get_or}
-use Rattle.log.specs.declared.event.Event.TheVariants.{Item}
-use Rattle.log.specs.declared.event.ItemKind.TheVariants.{Put}
+use Rattle.eventlog.specs.declared.event.Event.TheVariants.{Item}
+use Rattle.eventlog.specs.declared.event.ItemKind.TheVariants.{Put}
 use Rattle.model.specs.Chain.{freed_events}
 use Rattle.chain.proofs.Acts.{logged_then}
 use Rattle.chain.proofs.inner.Inner.send.Goals as goal

@@ -1,5 +1,5 @@
 use Rattle.std.proofs.Common.{◌+◌, ◌-◌, ◌≤◌, length, Ok, ap, ◌∙◌, arith}
-use Rattle.log.specs.Format.{encode_all}
+use Rattle.eventlog.specs.Format.{encode_all}
 use Rattle.model.specs.Chain.{answer, step_refusal, stepped}
 use Rattle.model.proofs.Sizes.{step_fits}
 use Rattle.chain.specs.View.{chain_of}

@@ -1,6 +1,6 @@
 use Rattle.std.proofs.Common.{[], ◌∷◌, ap, ◌∙◌}
-use Rattle.log.specs.Sheet.{Sheet, logged}
-use Rattle.log.specs.declared.event.Event.TheVariants.{Tick}
+use Rattle.eventlog.specs.Sheet.{Sheet, logged}
+use Rattle.eventlog.specs.declared.event.Event.TheVariants.{Tick}
 use Rattle.chain.specs.View.{chain_of}
 use Rattle.chain.proofs.Acts.{step_acted}
 use Rattle.chain.proofs.inner.Inner.step_all.Goals as goal
