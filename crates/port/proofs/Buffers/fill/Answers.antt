@@ -5,8 +5,8 @@ use Rattle.ring.specs.Contents.{contents}
 use Rattle.port.proofs.Numbers.{pushed_room}
 use Rattle.port.proofs.Buffers.fill.Goals as goal
 
-pub invariant-of-self : goal.invariant-of-self
-invariant-of-self c =
+pub invariant_of-self : goal.invariant_of-self
+invariant_of-self c =
     let b = c.args.self.now in
     let waiting = contents b.waiting in
     let not-all = eqb-false (b.held + b.owed) b.all c.requires in

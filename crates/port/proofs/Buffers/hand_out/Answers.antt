@@ -4,8 +4,8 @@ use Rattle.ring.specs.Contents.{contents}
 use Rattle.port.proofs.Numbers.{length-tail, pushed_room}
 use Rattle.port.proofs.Buffers.hand_out.Goals as goal
 
-pub invariant-of-self-2 : goal.invariant-of-self-2
-invariant-of-self-2 c =
+pub invariant_of-self-2 : goal.invariant_of-self-2
+invariant_of-self-2 c =
     let b = c.args.self.now in
     let out = contents b.out in
     let number = c.in-Some.frame.number in

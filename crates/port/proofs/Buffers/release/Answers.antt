@@ -7,13 +7,13 @@ use Rattle.port.proofs.Buffers.release.Goals as goal
 fewer : (c : goal.After-remove)
     → length (without c.args.number (contents c.args.self.now.out)) < length
     (contents c.args.self.now.out)
-fewer c = fewer_without c.args.number (contents c.args.self.now.out) (sym c.if-is-out.ensures)
+fewer c = fewer_without c.args.number (contents c.args.self.now.out) (sym c.if-is_out.ensures)
 
-pub overflow-sub-self : goal.overflow-sub-self
-overflow-sub-self c = omega (arith, fewer c)
+pub overflow_sub-self : goal.overflow_sub-self
+overflow_sub-self c = omega (arith, fewer c)
 
-pub invariant-of-self : goal.invariant-of-self
-invariant-of-self c =
+pub invariant_of-self : goal.invariant_of-self
+invariant_of-self c =
     let less = fewer c in
     let is = ap length c.remove.ensures in
     (omega arith, (omega arith, (omega arith, (omega arith, tt))))

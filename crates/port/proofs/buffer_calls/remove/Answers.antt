@@ -7,7 +7,7 @@ pub loop-turn-preserved : goal.loop-turn-preserved
 loop-turn-preserved c =
     let all = contents c.args.numbers.now in
     let within : c.loop-turn.-turn < length all = omega arith in
-    turn c.args.number all _ _ c.loop-turn.-turn within c.loop-turn.invariant c.pass-on.ensures
+    turn c.args.number all _ _ c.loop-turn.-turn within c.loop-turn.invariant c.pass_on.ensures
 
 pub returns : goal.returns
 returns c =

@@ -15,8 +15,8 @@ loop-i-preserved g c =
     let more =
     mapped_more c.loop-i.self c.loop-i.i c.place-at.result c.index-self-at.result (omega arith) in
     let size = ring_length old ∙ sym c.loop-i.invariant.1 in (
-      more c.place-at.ensures g.T.Countdown.counted (contents old) c.counted-down.result size
+      more c.place-at.ensures g.T.Countdown.counted (contents old) c.counted_down.result size
           c.loop-i.invariant.0
-          c.index-self-at.is c.counted-down.ensures,
+          c.index-self-at.is c.counted_down.ensures,
       c.loop-i.invariant.1,
     )

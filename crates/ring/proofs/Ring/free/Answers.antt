@@ -2,5 +2,5 @@ use Rattle.std.proofs.Common.{arith}
 use Rattle.ring.proofs.Rings.{ring_length}
 use Rattle.ring.proofs.Ring.free.Goals as goal
 
-pub overflow-sub-result : goal.overflow-sub-result
-overflow-sub-result g c = omega (arith, ring_length c.args.self.now)
+pub overflow_sub-result : goal.overflow_sub-result
+overflow_sub-result g c = omega (arith, ring_length c.args.self.now)

@@ -5,27 +5,27 @@ use Rattle.script.proofs.Passes.{fewer, ends_none}
 use Rattle.script.proofs.Verdicts.{verdict_short, judged}
 use Rattle.script.proofs.reading.check.Goals as goal
 
-pub returns-in-err-next-command : goal.returns-in-err-next-command
-returns-in-err-next-command c =
+pub returns-in_err-next_command : goal.returns-in_err-next_command
+returns-in_err-next_command c =
     let bs = c.args.script.now in
     let p = err_from_is_err_and c.from-residual.result c.from-residual.ensures.1 in
     let told =
-    sym (ap ends {y = Err c.in-err-next-command.field-0.0} c.in-err-next-command.ensures.passes) in
+    sym (ap ends {y = Err c.in_err-next_command.field-0.0} c.in_err-next_command.ensures.passes) in
     rw (p.1, p.2) (record { answer = told ∙ c.commands.invariant ∙ verdict_short bs (omega arith); law = judged bs })
 
 pub commands-smaller : goal.commands-smaller
 commands-smaller c =
-    let t = state c.next-command.new.self in
-    let some = c.in-ok-next-command.was ∙ ap Ok c.in-Some.is in
+    let t = state c.next_command.new.self in
+    let some = c.in_ok-next_command.was ∙ ap Ok c.in-Some.is in
     fewer (state c.commands.cursor) t c.in-Some.field-0
-    (ap (λ r. (r, t)) (sym some) ∙ c.next-command.ensures.step)
+    (ap (λ r. (r, t)) (sym some) ∙ c.next_command.ensures.step)
 
 pub returns : goal.returns
 returns c =
     let bs = c.args.script.now in
     let s = state c.commands.cursor in
-    let t = state c.next-command.new.self in
+    let t = state c.next_command.new.self in
     let none =
-    ends_none s t c.in-ok-next-command.field-0 c.in-ok-next-command.ensures.passes
-    c.in-default.is in
+    ends_none s t c.in_ok-next_command.field-0 c.in_ok-next_command.ensures.passes
+    c.in_default.is in
     record { answer = none ∙ c.commands.invariant ∙ verdict_short bs (omega arith); law = judged bs }

@@ -20,31 +20,31 @@ digits_on : (bs : List ℕ) (i : ℕ) (r : Bool) → i < length bs → r ≡ is_
     → all_ascii_digits (drop i bs) ≡ (r && all_ascii_digits (drop (i + 1) bs))
 digits_on bs i r h e = at_drop_more all_ascii_digits bs i 0 h ∙ rw e
 
-pub returns-then-not-is-ascii-digit : goal.returns-then-not-is-ascii-digit
-returns-then-not-is-ascii-digit c =
+pub returns-then-not-is_ascii_digit : goal.returns-then-not-is_ascii_digit
+returns-then-not-is_ascii_digit c =
     let none =
     digits_on c.args.text.now c.loop-b.b-index false (omega arith)
-    c.if-not-is-ascii-digit.ensures.value in
+    c.if-not-is_ascii_digit.ensures.value in
     let all : all_ascii_digits c.args.text.now ≡ false = sym c.loop-b.invariant.2 ∙ none in
     grind (arith, nat_tests)
 
-pub overflow-mul-value : goal.overflow-mul-value
-overflow-mul-value c = let s = short c.loop-b.value c.loop-b.b-index c.loop-b.invariant.0 (omega arith) in omega arith
+pub overflow_mul-value : goal.overflow_mul-value
+overflow_mul-value c = let s = short c.loop-b.value c.loop-b.b-index c.loop-b.invariant.0 (omega arith) in omega arith
 
-pub overflow-add-value : goal.overflow-add-value
-overflow-add-value c =
+pub overflow_add-value : goal.overflow_add-value
+overflow_add-value c =
     let s = short c.loop-b.value c.loop-b.b-index c.loop-b.invariant.0 (omega arith) in
-    omega (arith, c.if-not-is-ascii-digit.ensures.cases)
+    omega (arith, c.if-not-is_ascii_digit.ensures.cases)
 
 pub loop-b-preserved : goal.loop-b-preserved
 loop-b-preserved c =
     let all =
     digits_on c.args.text.now c.loop-b.b-index true (omega arith)
-    c.if-not-is-ascii-digit.ensures.value in
+    c.if-not-is_ascii_digit.ensures.value in
     let value =
     at_drop_more (value_on c.loop-b.value) c.args.text.now c.loop-b.b-index 0 (omega arith) in (
       grown c.loop-b.value c.loop-b.b-index c.from.result c.loop-b.invariant.0
-          (omega (arith, c.if-not-is-ascii-digit.ensures.cases)),
+          (omega (arith, c.if-not-is_ascii_digit.ensures.cases)),
       rw c.from.ensures (sym value ∙ c.loop-b.invariant.1),
       sym all ∙ c.loop-b.invariant.2,
     )

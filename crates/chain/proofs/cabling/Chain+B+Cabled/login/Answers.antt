@@ -10,6 +10,6 @@ returns g c =
       answer = c.login.ensures.answer;
       run =
           login_continues g.B.Bank.calls g.met.B.Bank.lawful (view c.args.self.now.inner)
-          (view c.login.new.self) c.args.link c.args.west c.args.east c.args.west-n
-          c.args.east-n c.login.ensures.state;
+          (view c.login.new.self) c.args.link c.args.west c.args.east c.args.west_n
+          c.args.east_n c.login.ensures.state;
     }

@@ -6,8 +6,8 @@ use Rattle.chain.specs.View.{chain_of}
 use Rattle.chain.proofs.Called.{refused_collect, made_collect, wrote}
 use Rattle.chain.proofs.inner.Inner.collect.Goals as goal
 
-pub returns-in-err-frame : goal.returns-in-err-frame
-returns-in-err-frame g c =
+pub returns-in_err-frame : goal.returns-in_err-frame
+returns-in_err-frame g c =
     let M = g.B.Bank.calls in
     let self = chain_of g.B.Bank.model c.args.self.now in
     let sheet = c.args.sheet.now in
@@ -15,8 +15,8 @@ returns-in-err-frame g c =
     let e = c.args.end in
     let p = err_from_is_err_and c.from-residual.result c.from-residual.ensures.1 in
     refused_collect M self e sheet used (used + call_bytes) (collectable M self e (length sheet - used))
-    c.in-err-frame.field-0.0 c.from-residual.result
-    (c.in-err-frame.ensures.value ∙ ap (collectable M self e) c.saturating-sub.ensures)
+    c.in_err-frame.field-0.0 c.from-residual.result
+    (c.in_err-frame.ensures.value ∙ ap (collectable M self e) c.saturating_sub.ensures)
     (p.1 ∙ ap Err p.2)
 
 pub returns : goal.returns
@@ -26,15 +26,15 @@ returns g c =
     let sheet = c.args.sheet.now in
     let used = c.args.used in
     let e = c.args.end in
-    let frame = c.in-ok-frame.frame in
+    let frame = c.in_ok-frame.frame in
     let turn = collects_by M self e (Ok frame) in
-    let left = c.in-ok-frame.ensures.open in
+    let left = c.in_ok-frame.ensures.open in
     let fits : length (encode_all turn.events) ≤ length sheet - used =
-    omega (arith, left, c.saturating-sub.ensures) in
-    let inside : used ≤ length sheet = omega (arith, left, c.saturating-sub.ensures) in
+    omega (arith, left, c.saturating_sub.ensures) in
+    let inside : used ≤ length sheet = omega (arith, left, c.saturating_sub.ensures) in
     let w =
-    wrote sheet used turn.events c.write-event-next.new.sheet c.write-event-next.result fits inside
+    wrote sheet used turn.events c.write_event-next.new.sheet c.write_event-next.result fits inside
     (search rules) in
     made_collect M self e sheet used (used + call_bytes) (collectable M self e (length sheet - used)) frame _ _ _
-    (c.in-ok-frame.ensures.value ∙ ap (collectable M self e) c.saturating-sub.ensures) (search rules)
+    (c.in_ok-frame.ensures.value ∙ ap (collectable M self e) c.saturating_sub.ensures) (search rules)
     w w.end-is

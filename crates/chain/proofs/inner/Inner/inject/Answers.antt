@@ -13,7 +13,7 @@ returns-in-Some g c =
     let used = c.args.used in
     refused_call self (injected M self c.args.end) (λ o. answer o (used + call_bytes)) sheet used
     (inject_refusal M self c.args.end (length sheet - used)) c.in-Some.refusal
-    (c.in-Some.ensures.value ∙ ap (inject_refusal M self c.args.end) c.saturating-sub.ensures)
+    (c.in-Some.ensures.value ∙ ap (inject_refusal M self c.args.end) c.saturating_sub.ensures)
 
 pub returns : goal.returns
 returns g c =
@@ -22,15 +22,15 @@ returns g c =
     let sheet = c.args.sheet.now in
     let used = c.args.used in
     let turn = injected M self c.args.end in
-    let left = c.in-default.ensures.open.1 in
+    let left = c.in_default.ensures.open.1 in
     let fits : length (encode_all turn.events) ≤ length sheet - used =
-    omega (arith, left, c.saturating-sub.ensures) in
-    let inside : used ≤ length sheet = omega (arith, left, c.saturating-sub.ensures) in
+    omega (arith, left, c.saturating_sub.ensures) in
+    let inside : used ≤ length sheet = omega (arith, left, c.saturating_sub.ensures) in
     let w =
-    wrote sheet used turn.events c.write-event.new.sheet c.write-event.result fits inside
+    wrote sheet used turn.events c.write_event.new.sheet c.write_event.result fits inside
     (search rules) in
     made_call self turn (λ o. answer o (used + call_bytes)) sheet used
     (inject_refusal M self c.args.end (length sheet - used)) _ _ _ _
-    (c.in-default.ensures.value ∙ ap (inject_refusal M self c.args.end) c.saturating-sub.ensures)
+    (c.in_default.ensures.value ∙ ap (inject_refusal M self c.args.end) c.saturating_sub.ensures)
     (search rules)
     w (ap Ok w.end-is)

@@ -17,7 +17,7 @@ returns-in-Some g c =
     (λ o. handed_back token o (used + call_bytes)) sheet used
     (release_refusal M self token.end token.frame.number (length sheet - used)) c.in-Some.refusal
     (c.in-Some.ensures.value
-    ∙ ap (release_refusal M self token.end token.frame.number) c.saturating-sub-room.ensures)
+    ∙ ap (release_refusal M self token.end token.frame.number) c.saturating_sub-room.ensures)
 
 pub returns : goal.returns
 returns g c =
@@ -27,15 +27,15 @@ returns g c =
     let used = c.args.used in
     let token = c.args.token in
     let turn = released_at M self token.end token.frame.number in
-    let left = c.in-default.ensures.open in
+    let left = c.in_default.ensures.open in
     let fits : length (encode_all turn.events) ≤ length sheet - used =
-    omega (arith, left, c.saturating-sub-room.ensures) in
-    let inside : used ≤ length sheet = omega (arith, left, c.saturating-sub-room.ensures) in
+    omega (arith, left, c.saturating_sub-room.ensures) in
+    let inside : used ≤ length sheet = omega (arith, left, c.saturating_sub-room.ensures) in
     let w =
-    wrote sheet used turn.events c.write-event.new.sheet c.write-event.result fits inside
+    wrote sheet used turn.events c.write_event.new.sheet c.write_event.result fits inside
     (search rules) in
     made_call self turn (λ o. handed_back token o (used + call_bytes)) sheet used
     (release_refusal M self token.end token.frame.number (length sheet - used)) _ _ _ _
-    (c.in-default.ensures.value
-    ∙ ap (release_refusal M self token.end token.frame.number) c.saturating-sub-room.ensures) (search rules)
+    (c.in_default.ensures.value
+    ∙ ap (release_refusal M self token.end token.frame.number) c.saturating_sub-room.ensures) (search rules)
     w (ap Ok w.end-is)

@@ -14,7 +14,7 @@ returns-in-Some g c =
     let used = c.args.used in
     refused_call self (stepped M self) (λ o. answer o (used + length (encode_all (stepped M self).events))) sheet used
     (step_refusal M self (length sheet - used)) c.in-Some.refusal
-    (c.in-Some.ensures.value ∙ ap (step_refusal M self) c.saturating-sub.ensures)
+    (c.in-Some.ensures.value ∙ ap (step_refusal M self) c.saturating_sub.ensures)
 
 pub returns : goal.returns
 returns g c =
@@ -23,13 +23,13 @@ returns g c =
     let sheet = c.args.sheet.now in
     let used = c.args.used in
     let events = (stepped M self).events in
-    let left = c.in-default.ensures.open.1 in
+    let left = c.in_default.ensures.open.1 in
     let fits : length (encode_all events) ≤ length sheet - used =
-    omega (arith, step_fits M self, left, c.saturating-sub.ensures) in
-    let inside : used ≤ length sheet = omega (arith, left, c.saturating-sub.ensures) in
-    let w = wrote sheet used events _ _ fits inside c.step-all.ensures.sheet in
+    omega (arith, step_fits M self, left, c.saturating_sub.ensures) in
+    let inside : used ≤ length sheet = omega (arith, left, c.saturating_sub.ensures) in
+    let w = wrote sheet used events _ _ fits inside c.step_all.ensures.sheet in
     made_call self (stepped M self) (λ o. answer o (used + length (encode_all events))) sheet used
     (step_refusal M self (length sheet - used)) _ _ _ _
-    (c.in-default.ensures.value ∙ ap (step_refusal M self) c.saturating-sub.ensures)
-    c.step-all.ensures.state
+    (c.in_default.ensures.value ∙ ap (step_refusal M self) c.saturating_sub.ensures)
+    c.step_all.ensures.state
     w (ap Ok w.end-is)

@@ -9,12 +9,12 @@ pub returns : goal.returns
 returns g c =
     let view = chain_of g.B.Bank.model in
     let start : Sheet = (c.args.sheet.now, c.args.used) in
-    step_acted g.B.Bank.calls (view c.args.self.now) (view c.next-tick.new.self)
-    (view c.take-all-taken.new.self) (view c.send-all.new.self) start
-    (c.write-event-ticked.new.sheet, c.write-event-ticked.result)
-    (c.take-all-taken.new.sheet, c.take-all-taken.result) (c.send-all.new.sheet, c.send-all.result)
+    step_acted g.B.Bank.calls (view c.args.self.now) (view c.next_tick.new.self)
+    (view c.take_all-taken.new.self) (view c.send_all.new.self) start
+    (c.write_event-ticked.new.sheet, c.write_event-ticked.result)
+    (c.take_all-taken.new.sheet, c.take_all-taken.result) (c.send_all.new.sheet, c.send_all.result)
     (record {
-      state = c.next-tick.ensures;
-      sheet = c.write-event-ticked.ensures ∙ ap (λ w. logged start (Tick w.tick ∷ [])) c.next-tick.ensures;
+      state = c.next_tick.ensures;
+      sheet = c.write_event-ticked.ensures ∙ ap (λ w. logged start (Tick w.tick ∷ [])) c.next_tick.ensures;
     })
-    c.take-all-taken.ensures c.send-all.ensures
+    c.take_all-taken.ensures c.send_all.ensures

@@ -18,8 +18,8 @@ returns-then-start-self c =
     let cursor = c.args.self.now in
     ended (state cursor) (ap lines (drop_all cursor.at cursor.script.now c.if-start-self.true))
 
-pub invariant-of-self : goal.invariant-of-self
-invariant-of-self c =
+pub invariant_of-self : goal.invariant_of-self
+invariant_of-self c =
     let cursor = c.args.self.now in
     let within = run_within Line cursor.script.now cursor.at cursor.inside in
     let counted = cursor.counted in
@@ -33,8 +33,8 @@ unfolding state
 returns c =
     let cursor = c.args.self.now in
     let one =
-    first_line cursor.script.now cursor.at c.run-end-end.result c.if-end-self.self (omega arith)
-    c.run-end-end.ensures
+    first_line cursor.script.now cursor.at c.run_end-end.result c.if-end-self.self (omega arith)
+    c.run_end-end.ensures
     (λ lt. elim c.if-end-self.branch [ then-end-self w ↦ omega arith | else-end-self w ↦ omega arith ])
     (λ le. elim c.if-end-self.branch [ then-end-self w ↦ omega arith | else-end-self w ↦ omega arith ]) in
     rw one

@@ -17,19 +17,19 @@ pub loop-i-preserved : goal.loop-i-preserved
 loop-i-preserved c =
     let k =
     counted seen c.next.result (left c.loop-i.tokens) (left c.next.new.self) true c.next.ensures
-    c.if-is-none.ensures in
+    c.if-is_none.ensures in
     omega arith
 
-pub returns-then-is-none : goal.returns-then-is-none
-returns-then-is-none c =
+pub returns-then-is_none : goal.returns-then-is_none
+returns-then-is_none c =
     let k =
     counted seen c.next.result (left c.loop-i.tokens) (left c.next.new.self) false c.next.ensures
-    c.if-is-none.ensures in
+    c.if-is_none.ensures in
     grind (arith, nat_tests)
 
 pub returns : goal.returns
 returns c =
     let k =
     counted seen c.next-2.result (left c.loop-i.tokens) (left c.next-2.new.self)
-    (not c.is-none-2.result) c.next-2.ensures c.is-none-2.ensures in
+    (not c.is_none-2.result) c.next-2.ensures c.is_none-2.ensures in
     grind (arith, nat_tests)

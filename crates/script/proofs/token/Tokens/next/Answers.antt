@@ -8,18 +8,18 @@ pub returns-then-start-self : goal.returns-then-start-self
 unfolding left
 returns-then-start-self c =
     let none =
-    no_word c.args.self.now.text.now c.args.self.now.at c.run-end-start.result
-    c.run-end-start.ensures c.if-start-self.true in
+    no_word c.args.self.now.text.now c.args.self.now.at c.run_end-start.result
+    c.run_end-start.ensures c.if-start-self.true in
     rw (none.0, none.1)
 
-pub slice-bounds-from-word-end : goal.slice-bounds-from-word-end
-slice-bounds-from-word-end c =
-    omega (arith, run_within InWord c.args.self.now.text.now c.run-end-start.result (omega arith))
+pub slice_bounds-from_word-end : goal.slice_bounds-from_word-end
+slice_bounds-from_word-end c =
+    omega (arith, run_within InWord c.args.self.now.text.now c.run_end-start.result (omega arith))
 
 pub returns : goal.returns
 unfolding left
 returns c =
     let one =
-    first_word c.args.self.now.text.now c.args.self.now.at c.run-end-start.result
-    c.run-end-start.ensures c.run-end-end.result c.if-start-self.false c.run-end-end.ensures in
-    rw (one, c.from-word.ensures)
+    first_word c.args.self.now.text.now c.args.self.now.at c.run_end-start.result
+    c.run_end-start.ensures c.run_end-end.result c.if-start-self.false c.run_end-end.ensures in
+    rw (one, c.from_word.ensures)

@@ -4,4 +4,4 @@ use Rattle.channel.specs.Queues.{map_empty}
 use Rattle.channel.proofs.delay.calls.DelayRingChannel.is_idle.Goals as goal
 
 pub returns : goal.returns
-returns c = c.is-empty.ensures ∙ sym (map_empty _ (contents c.args.self.now.waiting))
+returns c = c.is_empty.ensures ∙ sym (map_empty _ (contents c.args.self.now.waiting))

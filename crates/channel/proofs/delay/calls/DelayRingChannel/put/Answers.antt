@@ -4,8 +4,8 @@ use Rattle.channel.specs.Timed.{within}
 use Rattle.channel.proofs.Waiting.{within_pushed}
 use Rattle.channel.proofs.delay.calls.DelayRingChannel.put.Goals as goal
 
-pub invariant-of-self : goal.invariant-of-self
-invariant-of-self c =
+pub invariant_of-self : goal.invariant_of-self
+invariant_of-self c =
     let d = c.args.self.now in (
       ap (within d.delay) c.push.ensures.state
           ∙ within_pushed d.delay 64 (contents d.waiting) _ d.bounded (omega arith),
