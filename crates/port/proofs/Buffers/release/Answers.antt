@@ -16,4 +16,9 @@ pub invariant_of-self : goal.invariant_of-self
 invariant_of-self c =
     let less = fewer c in
     let is = ap length c.remove.ensures in
-    (omega arith, (omega arith, (omega arith, (omega arith, tt))))
+    record {
+      within = omega arith;
+      some = omega arith;
+      few = omega arith;
+      kept = omega arith;
+    }

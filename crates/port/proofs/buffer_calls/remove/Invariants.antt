@@ -7,5 +7,5 @@ use Rattle.port.proofs.buffer_calls.remove.Given as goal
 abbrev pub invariant-loop-turn : goal.invariant-loop-turn
 invariant-loop-turn l =
     contents l.numbers
-    ≡ drop l.-turn (contents l.initial.numbers) ++ without l.number
-    (take l.-turn (contents l.initial.numbers))
+    ≡ drop l._turn (contents l.initial.numbers) ++ without l.number
+    (take l._turn (contents l.initial.numbers))
