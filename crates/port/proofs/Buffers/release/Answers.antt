@@ -1,4 +1,4 @@
-use Rattle.std.proofs.Common.{◌≡◌, ◌<◌, length, sym, ap, arith}
+use Rattle.std.proofs.Common.{◌<◌, length, sym, ap, arith}
 use Rattle.ring.specs.Contents.{contents}
 use Rattle.port.specs.Port.{without}
 use Rattle.port.proofs.Numbers.{fewer_without}
