@@ -1,5 +1,6 @@
 -- The laws of every run.
-use Rattle.std.proofs.Common.{◌≡◌, ℕ, zero, suc, ◌+◌, ◌*◌, ◌^◌, ◌<◌, min, List, [], ◌∷◌, ◌++◌, length, sym, refl, ap, ◌∙◌, subst, append-nil, mod-lt, arith, length-append, pow_pos}
+use Rattle.std.proofs.Common.{◌≡◌, ℕ, zero, suc, ◌+◌, ◌*◌, ◌^◌, ◌<◌, min, List, [], ◌∷◌, ◌++◌, length, sym, refl, ap}
+use Rattle.std.proofs.Common.{◌∙◌, subst, append-nil, mod-lt, arith, length-append, pow_pos}
 use Rattle.std.specs.List.{AllByRecursion as All}
 use Rattle.symbol.specs.declared.Frame.{Frame}
 use Rattle.symbol.specs.declared.Symbol.{Symbol}
@@ -14,7 +15,7 @@ use Rattle.model.specs.Chain.{Chain, facing, port_of, end_port, port_at_end, opp
 use Rattle.model.specs.Chain.{collects, releases}
 use Rattle.model.specs.Run.{Log, Phase, Moving, Run, is_cabled, is_running, is_draining, login, start, inject, step}
 use Rattle.model.specs.Run.{collect, release, drain}
-use Rattle.model.specs.Figures.{Stream, Frames, RRdys, reported_lost, made_good, puts, injected, collected, ticks}
+use Rattle.model.specs.Figures.{Stream, Frames, RRdys, reported_lost, made_good, puts, injected, ticks}
 use Rattle.model.specs.Stretches.{taken, taken_symbols, stretches, cut, nothing_put, lost_in, good_among}
 use Rattle.model.specs.CreditSum.{SumOfSix, CreditSum}
 use Rattle.model.specs.WholeParts.{WholePart, InParts}

@@ -1,5 +1,6 @@
 -- Every record of every run is well-formed.
-use Rattle.std.proofs.Common.{◌≡◌, ℕ, zero, suc, ◌+◌, ◌-◌, ◌*◌, ◌<◌, ◌≤◌, Bool, true, false, cond, eqb, ltb, [], ◌∷◌, ◌++◌, get_or, replicate, Some, None, Ok, Err, Option, sym, refl, subst, append-nil, arith}
+use Rattle.std.proofs.Common.{◌≡◌, ℕ, zero, suc, ◌+◌, ◌*◌, ◌<◌, ◌≤◌, Bool, true, false, cond, eqb, ltb, [], ◌∷◌, ◌++◌}
+use Rattle.std.proofs.Common.{get_or, replicate, Some, None, Ok, Err, Option, sym, refl, subst, append-nil, arith}
 use Rattle.ring.specs.Queue.{head?}
 use Rattle.symbol.specs.declared.Frame.{Frame}
 use Rattle.eventlog.specs.declared.event.Event.TheVariants as event

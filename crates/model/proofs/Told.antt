@@ -1,5 +1,6 @@
 -- The account of a port has the figures of its log.
-use Rattle.std.proofs.Common.{◌≡◌, ℕ, ◌+◌, List, [], ◌∷◌, ◌++◌, length, sym, refl, ap, ◌∙◌, append_assoc, append-nil, arith, length-append}
+use Rattle.std.proofs.Common.{◌≡◌, ℕ, ◌+◌, List, [], ◌∷◌, ◌++◌, length, sym, refl, ap, ◌∙◌, append_assoc, append-nil}
+use Rattle.std.proofs.Common.{arith, length-append}
 use Rattle.std.specs.List.{flat_map}
 use Rattle.symbol.specs.declared.Frame.{Frame}
 use Rattle.symbol.specs.declared.Symbol.{Symbol}
@@ -53,7 +54,8 @@ frames-append (symbol.Frame f ∷ xs) ys = ap {B = List Frame} (λ z. f ∷ z) (
 frames-append (symbol.RRdy ∷ xs) ys = frames-append xs ys
 frames-append (symbol.Mark m ∷ xs) ys = frames-append xs ys
 
-frames_joined : (g : Event → List Symbol) (es : Log) → frames_among (flat_map g es) ≡ flat_map (λ e. frames_among (g e)) es
+frames_joined : (g : Event → List Symbol) (es : Log)
+    → frames_among (flat_map g es) ≡ flat_map (λ e. frames_among (g e)) es
 frames_joined g [] = refl
 frames_joined g (e ∷ es) = frames-append (g e) (flat_map g es)
     ∙ ap {B = List Frame} (λ z. frames_among (g e) ++ z) (frames_joined g es)
