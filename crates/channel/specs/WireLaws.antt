@@ -1,5 +1,5 @@
 -- A wire keeps the laws of a channel.
-use Rattle.std.specs.Prelude.{◌≡◌, true, false, not, List, [], ◌∷◌, refl}
+use Rattle.std.specs.Prelude.{◌≡◌, false, not, List, [], ◌∷◌, refl}
 use Rattle.std.proofs.Common.{ap}
 use Rattle.std.proofs.lemmas.Bool.{cond-true, cond-false, true≢false, not-true}
 use Rattle.channel.specs.Calls.{Lawful}

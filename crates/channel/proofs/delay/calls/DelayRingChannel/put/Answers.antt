@@ -6,8 +6,7 @@ use Rattle.channel.proofs.delay.calls.DelayRingChannel.put.Goals as goal
 
 pub invariant_of-self : goal.invariant_of-self
 invariant_of-self c =
-    let d = c.args.self.now in (
-      ap (within d.delay) c.push.ensures.state
-          ∙ within_pushed d.delay 64 (contents d.waiting) _ d.bounded (omega arith),
-      tt,
-    )
+    let d = c.args.self.now in record {
+      bounded = ap (within d.delay) c.push.ensures.state
+          ∙ within_pushed d.delay 64 (contents d.waiting) _ d.bounded (omega arith);
+    }
