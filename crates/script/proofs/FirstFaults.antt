@@ -1,5 +1,6 @@
 -- The first line at fault is the one told.
-use Rattle.std.proofs.Common.{◌≡◌, ℕ, ◌+◌, List, [], ◌∷◌, ◌++◌, length, Some, None, Ok, Err, Option, Result, sym, refl, ap, ◌∙◌, subst, arith}
+use Rattle.std.proofs.Common.{◌≡◌, ℕ, ◌+◌, List, [], ◌∷◌, length, Some, None, Ok, Err, Option, Result, refl, ap, ◌∙◌}
+use Rattle.std.proofs.Common.{subst, arith}
 use Rattle.script.specs.declared.command.Placed.{Placed}
 use Rattle.script.specs.declared.fault.Fault.{Fault}
 use Rattle.script.specs.declared.line.Read.{Read}
@@ -7,7 +8,7 @@ use Rattle.script.specs.declared.order.Progress.{Progress}
 use Rattle.script.specs.Faults.{then}
 use Rattle.script.specs.Judged.{passed, FirstFault}
 use Rattle.script.specs.Line.{read_line}
-use Rattle.script.specs.Script.{before, commands_by, progress_by, commands_from}
+use Rattle.script.specs.Script.{commands_by, progress_by, commands_from}
 use Rattle.script.proofs.Places.{line_told}
 use Rattle.script.proofs.Never.{never}
 

@@ -1,11 +1,11 @@
 -- How the lines of a script begin.
-use Rattle.std.proofs.Common.{◌≡◌, ℕ, suc, ◌+◌, ◌-◌, ◌<◌, ◌≤◌, Bool, true, false, cond, not, eqb, List, [], ◌∷◌, length, take, drop, sym, refl, ap, ◌∙◌, ⊎_elim, suc-add, add-one, one-add, arith, length-drop}
+use Rattle.std.proofs.Common.{◌≡◌, ℕ, ◌+◌, ◌-◌, ◌<◌, ◌≤◌, Bool, true, false, eqb, List, [], ◌∷◌, length, take, drop}
+use Rattle.std.proofs.Common.{sym, refl, ap, ◌∙◌, ⊎_elim, add-one, one-add, arith, length-drop}
 use Rattle.std.specs.List.{prefix_len}
 use Rattle.std.proofs.lemmas.List.{drop-drop, drop_all}
 use Rattle.std.proofs.str.Laws.{order}
 use Rattle.script.specs.declared.scan.Run.TheVariants.{Line}
-use Rattle.script.specs.Text.{in_run}
-use Rattle.script.specs.Text.{lines, onto}
+use Rattle.script.specs.Text.{in_run, lines, onto}
 
 -- the first line, and those after the byte that ends it
 abbrev line_first : List ℕ → List (List ℕ)

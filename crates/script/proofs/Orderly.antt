@@ -1,5 +1,7 @@
 -- The commands of a script that is not at fault stand in order.
-use Rattle.std.proofs.Common.{◌≡◌, ℕ, zero, suc, ◌+◌, ◌<◌, ◌≤◌, Bool, true, false, cond, not, ◌&&◌, eqb, ltb, ◌≢◌, List, [], ◌∷◌, length, get_or, set, replicate, Some, None, Ok, Err, Option, Result, sym, refl, ap, ◌∙◌, subst, ⊎_elim, arith, length-set, get_or-set_other, get_or-set_same}
+use Rattle.std.proofs.Common.{◌≡◌, ℕ, zero, suc, ◌+◌, ◌<◌, ◌≤◌, Bool, true, false, cond, not, ◌&&◌, eqb, ltb, ◌≢◌}
+use Rattle.std.proofs.Common.{List, [], ◌∷◌, length, get_or, set, replicate, Some, None, Ok, Err, Option, Result, sym}
+use Rattle.std.proofs.Common.{refl, ap, ◌∙◌, subst, arith, length-set, get_or-set_other, get_or-set_same}
 use Rattle.std.proofs.ByRecursion.{All-weaker}
 use Rattle.std.proofs.lemmas.Bool.{eqb-true, eqb-false}
 use Rattle.std.proofs.lemmas.Bool.Decides.{nat_tests}
@@ -15,11 +17,11 @@ use Rattle.script.specs.declared.line.Read.{Read}
 use Rattle.script.specs.declared.order.Progress.{Progress}
 use Rattle.script.specs.declared.order.Stage.{Stage}
 use Rattle.script.specs.declared.order.Stage.TheVariants.{Bare, Cabled, Running, Draining}
-use Rattle.script.specs.Faults.{fault, then}
+use Rattle.script.specs.Faults.{then}
 use Rattle.script.specs.Judged.{is_chain, runs, is_drain, follows, loses_on, loses_for, Chained, Followed, Orderly}
 use Rattle.script.specs.Line.{command_of, ordered_by, ordered, read_tokens, read_line}
 use Rattle.script.specs.Order.{cabled, prepared, injected, run}
-use Rattle.script.specs.Order.{drained, stage_after, nothing_read, at_stage, one_more_lose}
+use Rattle.script.specs.Order.{drained, stage_after, nothing_read}
 use Rattle.script.specs.Order.{noted, at_stage?, after}
 use Rattle.script.specs.Script.{before, commands_by, progress_by, commands_from}
 use Rattle.script.specs.Tokens.{Seen, line_tokens}
@@ -237,7 +239,8 @@ Counted c xs ys = Low ys × ((d : ℕ) → get_or xs d 0 + one_on d c ≡ get_or
 
 bump_at : (xs : List ℕ) (e d : ℕ) (v : Bool) → eqb e d ≡ v → length xs ≡ 6 → e < 6 → get_or xs e 0 < 16
     → get_or xs d 0 ≤ 16
-    → (get_or xs d 0 + cond v 1 0 ≡ get_or (set xs e (get_or xs e 0 + 1)) d 0) × (get_or (set xs e (get_or xs e 0 + 1)) d 0 ≤ 16)
+    → (get_or xs d 0 + cond v 1 0 ≡ get_or (set xs e (get_or xs e 0 + 1)) d 0)
+    × (get_or (set xs e (get_or xs e 0 + 1)) d 0 ≤ 16)
 bump_at xs e d true is six small few low =
     let same : e ≡ d = eqb-true e d is in
     let new : get_or (set xs e (get_or xs e 0 + 1)) e 0 ≡ get_or xs e 0 + 1 =
@@ -248,7 +251,8 @@ bump_at xs e d true is six small few low =
     (sym at, omega arith)
 bump_at xs e d false is six small few low =
     let other : d ≢ e = λ q. eqb-false e d is (sym q) in
-    let at : get_or (set xs e (get_or xs e 0 + 1)) d 0 ≡ get_or xs d 0 = get_or-set_other xs e d (get_or xs e 0 + 1) 0 other in
+    let at : get_or (set xs e (get_or xs e 0 + 1)) d 0 ≡ get_or xs d 0 =
+    get_or-set_other xs e d (get_or xs e 0 + 1) 0 other in
     (omega arith, omega arith)
 
 module _ (p q : Progress) (low : Low p.loses) where

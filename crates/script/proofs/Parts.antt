@@ -1,8 +1,9 @@
 -- Lines and words are parts of the bytes that they are read from.
-use Rattle.std.proofs.Common.{◌≡◌, ℕ, suc, ◌+◌, ◌<◌, Bool, true, false, not, eqb, ◌⊎◌, List, [], ◌∷◌, ◌++◌, length, sym, refl, ap, ◌∙◌, subst, inl, inr, arith}
+use Rattle.std.proofs.Common.{◌≡◌, ℕ, suc, ◌+◌, Bool, true, false, not, eqb, List, [], ◌∷◌, ◌++◌, length, sym, refl}
+use Rattle.std.proofs.Common.{ap, ◌∙◌, subst, inl, inr, arith}
 use Rattle.std.proofs.lemmas.Bool.{eqb-true, eqb-false}
 use Rattle.std.specs.List.{AllByRecursion as All}
-use Rattle.script.specs.Laws.{LastLine, Lined, Apart, FirstWord, Parted}
+use Rattle.script.specs.Laws.{Lined, Apart, Parted}
 use Rattle.script.specs.Text.{Word, onto, lines, goes_on, attached, words}
 use Rattle.script.proofs.Never.{never}
 

@@ -1,5 +1,6 @@
 -- A pass over the lines of a script.
-use Rattle.std.proofs.Common.{◌≡◌, ℕ, ◌+◌, ◌<◌, ◌≤◌, List, [], ◌∷◌, length, is_some, Some, None, Ok, Err, Option, Result, unwrap_or, sym, refl, ap, ◌∙◌, arith}
+use Rattle.std.proofs.Common.{◌≡◌, ℕ, ◌+◌, ◌<◌, List, [], ◌∷◌, length, is_some, Some, None, Ok, Err, Option, Result}
+use Rattle.std.proofs.Common.{unwrap_or, sym, refl, ap, ◌∙◌, arith}
 use Rattle.script.specs.declared.command.Placed.{Placed}
 use Rattle.script.specs.declared.fault.Fault.{Fault}
 use Rattle.script.specs.declared.line.Read.{Read}
@@ -7,7 +8,7 @@ use Rattle.script.specs.declared.order.Progress.{Progress}
 use Rattle.script.specs.Faults.{then}
 use Rattle.script.specs.Line.{read_line}
 use Rattle.script.specs.Script.{State, Stepped, line_by, next_line, past_line, next_from, next}
-use Rattle.script.specs.Script.{before, commands_by, progress_by, commands_from, commands, first_then, ends}
+use Rattle.script.specs.Script.{commands_by, progress_by, commands_from, commands, first_then, ends}
 use Rattle.script.proofs.Never.{never}
 
 line_read_by : (s t : State) (ls : List (List ℕ)) (l : List ℕ) (r : Result (Option Read) Fault)

@@ -1,11 +1,11 @@
 -- Whatever a line is at fault for, its own number is told.
-use Rattle.std.proofs.Common.{◌≡◌, ℕ, Bool, true, false, cond, ◌&&◌, eqb, ltb, leb, List, [], ◌∷◌, length, Some, None, Ok, Err, Option, Result, refl, subst, arith}
+use Rattle.std.proofs.Common.{◌≡◌, ℕ, Bool, true, false, cond, ◌&&◌, eqb, ltb, leb, List, [], ◌∷◌, length, Some, None}
+use Rattle.std.proofs.Common.{Ok, Err, Option, Result, refl, subst}
 use Rattle.std.specs.Option.{ok_or}
 use Rattle.std.specs.List.{AllByRecursion as All}
 use Rattle.symbol.specs.Symbols.{kind_with}
 use Rattle.script.specs.declared.command.Command.{Command}
 use Rattle.script.specs.declared.command.Command.TheVariants.{Chain}
-use Rattle.script.specs.declared.command.End.{End}
 use Rattle.script.specs.declared.command.Keyword.{Keyword}
 use Rattle.script.specs.declared.command.Keyword.TheVariants as keyword
 use Rattle.script.specs.declared.command.Links.TheVariants.{One, Three}
@@ -17,8 +17,8 @@ use Rattle.script.specs.declared.arguments.Number.{Number}
 use Rattle.script.specs.declared.line.Read.{Read}
 use Rattle.script.specs.declared.order.Progress.{Progress}
 use Rattle.script.specs.Arguments.{number_by, as_number, letter_by, as_letter, as_end, as_kind, within, below, rest}
-use Rattle.script.specs.Arguments.{taken, taken_number, chain_by, chain_of, login_of, lose_of, frames_of, inject_of}
-use Rattle.script.specs.Arguments.{collect_of, step_of, arguments_of}
+use Rattle.script.specs.Arguments.{taken, taken_number, chain_by, chain_of, login_of, lose_of, frames_of}
+use Rattle.script.specs.Arguments.{arguments_of}
 use Rattle.script.specs.Commands.{keyword_of, arity, end_with}
 use Rattle.script.specs.Faults.{fault_at, fault, then}
 use Rattle.script.specs.Line.{command_by, command_of, ordered_by, ordered, read_tokens, read_line}
@@ -176,11 +176,8 @@ all_placed k (w ∷ ws) = (refl, all_placed k ws)
 
 on_line : (k : ℕ) (p : Progress) (bs : List ℕ) → On k Any (read_line k p bs)
 on_line k p bs =
-    on_cond k Any (ltb 80 (length bs)) (fault LongLine (record {
-      line =
-          k;
-      byte = 81;
-    })) (read_tokens p (line_tokens k bs)) refl
+    on_cond k Any (ltb 80 (length bs)) (fault LongLine (record { line = k; byte = 81 }))
+    (read_tokens p (line_tokens k bs)) refl
     (on_tokens k p (line_tokens k bs) (all_placed k (words 1 bs)))
 
 told_by : (k : ℕ) (r : Result (Option Read) Fault) (f : Fault) → On k Any r → r ≡ Err f → f.place.line ≡ k

@@ -1,17 +1,19 @@
 -- How the words of a line begin, gap by gap and word by word.
-use Rattle.std.proofs.Common.{◌≡◌, ℕ, suc, ◌+◌, ◌-◌, ◌<◌, ◌≤◌, Bool, true, false, cond, not, eqb, List, [], ◌∷◌, length, get_or, take, drop, sym, refl, ap, ◌∙◌, subst, add-zero, add-suc, suc-add, add-one, one-add, arith, length-drop, get_or-drop}
+use Rattle.std.proofs.Common.{◌≡◌, ℕ, suc, ◌+◌, ◌-◌, ◌<◌, ◌≤◌, Bool, true, false, eqb, List, [], ◌∷◌, length, get_or}
+use Rattle.std.proofs.Common.{take, drop, sym, refl, ap, ◌∙◌, subst, add-zero, add-suc, suc-add, add-one, one-add}
+use Rattle.std.proofs.Common.{arith, length-drop, get_or-drop}
 use Rattle.std.specs.List.{prefix_len}
 use Rattle.std.proofs.lemmas.List.{drop-drop, drop_more, drop_all}
 use Rattle.std.proofs.lemmas.List.Sums.{prefix_len-le-length}
 use Rattle.script.specs.declared.scan.Run.{Run}
-use Rattle.script.specs.declared.scan.Run.TheVariants.{Gap, Word as InWord, Line}
-use Rattle.script.specs.Text.{in_run}
-use Rattle.script.specs.Text.{Word, words, attached}
+use Rattle.script.specs.declared.scan.Run.TheVariants.{Gap, Word as InWord}
+use Rattle.script.specs.Text.{in_run, Word, words, attached}
 
 -- the words after a gap are the words
 gap_step : (at b : ℕ) (bs : List ℕ) (v : Bool) → eqb b 32 ≡ v
     → words (suc at) bs ≡ words (suc at + prefix_len (in_run Gap) bs) (drop (prefix_len (in_run Gap) bs) bs)
-    → words at (b ∷ bs) ≡ words (at + prefix_len (in_run Gap) (b ∷ bs)) (drop (prefix_len (in_run Gap) (b ∷ bs)) (b ∷ bs))
+    → words at (b ∷ bs)
+    ≡ words (at + prefix_len (in_run Gap) (b ∷ bs)) (drop (prefix_len (in_run Gap) (b ∷ bs)) (b ∷ bs))
 gap_step at b bs true e h = rw (e, one-add) (h ∙ rw (suc-add, add-suc))
 gap_step at b bs false e h = rw (e, add-zero) (rw e)
 
@@ -39,12 +41,14 @@ at_word at b [] h = simp h
 at_word at b (c ∷ cs) h = word_step at b c cs (eqb c 32) h refl (at_word (suc at) c cs)
 
 -- a run ends within the bytes
-pub run_within : (r : Run) (bs : List ℕ) (at : ℕ) → at ≤ length bs → at + prefix_len (in_run r) (drop at bs) ≤ length bs
+pub run_within : (r : Run) (bs : List ℕ) (at : ℕ) → at ≤ length bs
+    → at + prefix_len (in_run r) (drop at bs) ≤ length bs
 run_within r bs at h = omega (arith, prefix_len-le-length (in_run r) (drop at bs), length-drop at bs)
 
 -- the byte that ends a run is not in it
 stop_step : (p : ℕ → Bool) (x : ℕ) (xs : List ℕ) (v : Bool) → p x ≡ v
-    → (prefix_len p xs < length xs → p (get_or xs (prefix_len p xs) 0) ≡ false) → prefix_len p (x ∷ xs) < length (x ∷ xs)
+    → (prefix_len p xs < length xs → p (get_or xs (prefix_len p xs) 0) ≡ false)
+    → prefix_len p (x ∷ xs) < length (x ∷ xs)
     → p (get_or (x ∷ xs) (prefix_len p (x ∷ xs)) 0) ≡ false
 stop_step p x xs true e more h = let k = rw (e, one-add) at h in rw (e, one-add) (more (omega arith))
 stop_step p x xs false e more h = rw e e

@@ -1,5 +1,5 @@
 -- The arguments of each command, from the tokens behind its word.
-use Rattle.std.specs.Prelude.{ℕ, cond, ◌&&◌, List, [], ◌∷◌, Some, None, Ok, Err, Option, Result, ◌==◌, nat_le, nat_lt}
+use Rattle.std.specs.Prelude.{ℕ, cond, ◌&&◌, List, [], ◌∷◌, None, Ok, Err, Option, Result, ◌==◌, nat_le, nat_lt}
 use Rattle.std.specs.Option.{ok_or}
 use Rattle.symbol.specs.Symbols.{kind_with}
 use Rattle.symbol.specs.declared.SymbolKind.{SymbolKind}

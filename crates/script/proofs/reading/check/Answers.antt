@@ -1,4 +1,4 @@
-use Rattle.std.proofs.Common.{◌≡◌, Ok, Err, sym, ap, ◌∙◌, arith}
+use Rattle.std.proofs.Common.{Ok, Err, sym, ap, ◌∙◌, arith}
 use Rattle.std.proofs.lemmas.Result.{err_from_is_err_and}
 use Rattle.script.specs.Script.{state, ends}
 use Rattle.script.proofs.Passes.{fewer, ends_none}
@@ -8,7 +8,7 @@ use Rattle.script.proofs.reading.check.Goals as goal
 pub returns-in_err-next_command : goal.returns-in_err-next_command
 returns-in_err-next_command c =
     let bs = c.args.script.now in
-    let p = err_from_is_err_and c.from-residual.result c.from-residual.ensures.1 in
+    let p = err_from_is_err_and c.from_residual.result c.from_residual.ensures.1 in
     let told =
     sym (ap ends {y = Err c.in_err-next_command.field-0.0} c.in_err-next_command.ensures.passes) in
     rw (p.1, p.2) (record { answer = told ∙ c.commands.invariant ∙ verdict_short bs (omega arith); law = judged bs })

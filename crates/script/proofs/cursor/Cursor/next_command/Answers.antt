@@ -1,4 +1,4 @@
-use Rattle.std.proofs.Common.{◌≡◌, Some, None, Ok, Err, sym, refl, ap, ◌∙◌}
+use Rattle.std.proofs.Common.{◌≡◌, Some, None, Ok, Err, sym, ap, ◌∙◌}
 use Rattle.std.proofs.lemmas.Result.{err_from_is_err_and}
 use Rattle.script.specs.Script.{State, Stepped, state, next}
 use Rattle.script.proofs.Passes.{line_read, no_line, passes}
@@ -9,7 +9,7 @@ unfolding state
 returns-in_err-read c =
     let s = state c.args.self.now in
     let t = state c.next_line.new.self in
-    let p = err_from_is_err_and c.from-residual.result c.from-residual.ensures.1 in
+    let p = err_from_is_err_and c.from_residual.result c.from_residual.ensures.1 in
     let e = c.in_err-read.field-0.0 in
     let step : ◌≡◌ {A = Stepped} (Err e, t) (next s) =
     line_read (state c.lines.self) t c.in-Some.text.now (Err e) c.in-Some.ensures

@@ -1,4 +1,4 @@
-use Rattle.std.proofs.Common.{◌≡◌, [], None, sym, refl, ap, ◌∙◌, arith}
+use Rattle.std.proofs.Common.{◌≡◌, [], None, sym, ap, arith}
 use Rattle.std.proofs.lemmas.List.{drop_all}
 use Rattle.script.specs.declared.scan.Run.TheVariants.{Line}
 use Rattle.script.specs.Script.{State, state, line_by, next_line}
@@ -24,8 +24,8 @@ invariant_of-self c =
     let within = run_within Line cursor.script.now cursor.at cursor.inside in
     let counted = cursor.counted in
     elim c.if-end-self.branch [
-      | then-end-self w ↦ (omega arith, (omega arith, tt))
-      | else-end-self w ↦ (omega arith, (omega arith, tt))
+      | then-end-self w ↦ record { inside = omega arith; counted = omega arith }
+      | else-end-self w ↦ record { inside = omega arith; counted = omega arith }
     ]
 
 pub returns : goal.returns

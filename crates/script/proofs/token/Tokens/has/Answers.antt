@@ -1,8 +1,8 @@
-use Rattle.std.proofs.Common.{◌≡◌, ℕ, ◌+◌, Bool, true, false, cond, not, List, [], ◌∷◌, length, is_some, Some, None, Option, sym, refl, ap, ◌∙◌, add-one, arith}
+use Rattle.std.proofs.Common.{◌≡◌, ◌+◌, Bool, true, false, cond, not, List, [], ◌∷◌, length, is_some, Some, None}
+use Rattle.std.proofs.Common.{Option, ap, add-one, arith}
 use Rattle.std.specs.Option.{option_map}
 use Rattle.std.proofs.lemmas.Bool.Decides.{nat_tests}
-use Rattle.script.specs.Tokens.{left, split}
-use Rattle.script.specs.Tokens.{seen}
+use Rattle.script.specs.Tokens.{left, split, seen}
 use Rattle.script.proofs.token.Tokens.has.Goals as goal
 
 -- how many there were, by whether there was a next

@@ -1,6 +1,6 @@
-use Rattle.std.proofs.Common.{◌≡◌, sym, refl, ap, ◌∙◌, arith, rules}
-use Rattle.script.specs.declared.scan.Run.TheVariants.{Gap, Word as InWord}
-use Rattle.script.specs.Tokens.{left, split, placed}
+use Rattle.std.proofs.Common.{arith}
+use Rattle.script.specs.declared.scan.Run.TheVariants.{Word as InWord}
+use Rattle.script.specs.Tokens.{left}
 use Rattle.script.proofs.Words.{run_within, no_word, first_word}
 use Rattle.script.proofs.token.Tokens.next.Goals as goal
 
