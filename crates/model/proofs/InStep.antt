@@ -3,7 +3,7 @@ use Rattle.std.proofs.Common.{◌≡◌, ℕ, suc, ◌+◌, ◌-◌, ◌%◌, �
 use Rattle.std.proofs.Common.{[], ◌∷◌, ◌++◌, sym, refl, ap, ◌∙◌, subst, mod-lt, mod-eq_of_lt, arith, pow_pos}
 use native.Mathlib.Nat.{mod-le, mod-add-mod, add-mod-mod, add-mod_left, mod-add-div, zero-mod}
 use Rattle.std.proofs.lemmas.Bool.{and_parts, eqb-true}
-use Rattle.std.specs.List.{AllByRecursion as All}
+use Rattle.std.specs.List.{AllByRecursion}
 use Rattle.port.specs.Port.{Outflow, lost_of}
 use Rattle.model.specs.Figures.{Role, counted, mark, other, one_counted, counted_in}
 use Rattle.model.specs.Stretches.{Arrived, WasLost, lost_among, lost_in, good_among}
@@ -16,7 +16,7 @@ open_lost x = lost_among x.cut.still_open
 
 -- each ended stretch has left a whole part, every loss is in one or in the open one, and all made good is in one
 pub record Wholes (n : ℕ) (x : Losses) : Type 0 where
-  pub each : All (WholePart n) x.cut.ended
+  pub each : AllByRecursion (WholePart n) x.cut.ended
   pub all_lost : x.lost ≡ open_lost x + lost_in x.cut.ended
   pub all_good : x.good ≡ good_among x.cut.ended
 

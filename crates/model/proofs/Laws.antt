@@ -1,7 +1,7 @@
 -- The laws of every run.
 use Rattle.std.proofs.Common.{◌≡◌, ℕ, zero, suc, ◌+◌, ◌*◌, ◌^◌, ◌<◌, min, List, [], ◌∷◌, ◌++◌, length, sym, refl, ap}
 use Rattle.std.proofs.Common.{◌∙◌, subst, append-nil, mod-lt, arith, length-append, pow_pos}
-use Rattle.std.specs.List.{AllByRecursion as All}
+use Rattle.std.specs.List.{AllByRecursion}
 use Rattle.symbol.specs.declared.Frame.{Frame}
 use Rattle.symbol.specs.declared.Symbol.{Symbol}
 use Rattle.symbol.specs.declared.Symbol.TheVariants as symbol
@@ -58,7 +58,7 @@ links_same f g (suc n) h = omega (arith, links_same f g n (λ i z. h i (omega ar
 
 module _ {B : Type 0} (M : BankCalls B) (law : (b : B) → LawfulBank M b) where
   module _ (c : Chain B) (l : Log) (h : Invariant M c l) (few : Bounded c) (timed : c.tick ≡ ticks l)
-      (well : All WellFormed l) where
+      (well : AllByRecursion WellFormed l) where
     -- the loop in which port p sends frames, and the one in which it takes them
     sends_in : (p : ℕ) → p < 2 * c.links
         → Loop (port_of c p) (port_of c (facing p)) (on M c p) (on M c (facing p)) (account p l) (account (facing p) l)
@@ -126,7 +126,7 @@ module _ {B : Type 0} (M : BankCalls B) (law : (b : B) → LawfulBank M b) where
         → x.good ≡ made_good k (facing p) l
         → SameLosses x.cut (stretches k p l) → InParts (port_of c p).n k p l
     wholes p k x w lost good same = record {
-      each = subst (All (WholePart (port_of c p).n)) (sym same.ended) w.each;
+      each = subst (AllByRecursion (WholePart (port_of c p).n)) (sym same.ended) w.each;
       all_lost = sym lost ∙ w.all_lost ∙ (λ i. sym same.lost i + lost_in (sym same.ended i));
       all_good = sym good ∙ w.all_good ∙ ap good_among (sym same.ended);
     }

@@ -4,7 +4,7 @@ use Rattle.std.proofs.Common.{eqb, ltb, ◌≢◌, ◌⊎◌, List, [], ◌∷�
 use Rattle.std.proofs.Common.{mod-lt, arith, pow_pos, pow_mono}
 use Rattle.std.proofs.ByRecursion.{All-append}
 use Rattle.std.proofs.lemmas.Bool.{cond_both, lt-ltb, eqb-false, eqb-true, cases_eq, or_parts, false≢true}
-use Rattle.std.specs.List.{AllByRecursion as All}
+use Rattle.std.specs.List.{AllByRecursion}
 use Rattle.ring.specs.Queue.{head?, tail}
 use Rattle.symbol.specs.declared.Frame.{Frame}
 use Rattle.symbol.specs.declared.Item.{Item}
@@ -40,7 +40,7 @@ abbrev pub FineNumber : ℕ → Type 0
 FineNumber k = (0 < k) × (k < 4294967296)
 
 abbrev pub FineFrames : List Frame → Type 0
-FineFrames fs = All (λ f. FineNumber f.number) fs
+FineFrames fs = AllByRecursion (λ f. FineNumber f.number) fs
 
 abbrev FineSymbol : Symbol → Type 0
 FineSymbol (symbol.Frame f) = FineNumber f.number
@@ -48,14 +48,14 @@ FineSymbol symbol.RRdy = Unit {0}
 FineSymbol (symbol.Mark m) = Unit {0}
 
 abbrev pub FineSymbols : List Symbol → Type 0
-FineSymbols ss = All FineSymbol ss
+FineSymbols ss = AllByRecursion FineSymbol ss
 
 -- the frames of a port are fine, and what its marks make good fits
 pub record FineParts (n : ℕ) (outbox waiting : List Frame) (out : List ℕ) : Type 0 where
   pub small : n ≤ 15
   pub boxed : FineFrames outbox
   pub wait : FineFrames waiting
-  pub outside : All FineNumber out
+  pub outside : AllByRecursion FineNumber out
 
 abbrev pub FinePort : Port → Type 0
 FinePort s = FineParts s.n s.outbox.frames s.buffers.waiting s.buffers.out
@@ -77,15 +77,15 @@ well_good : (p : ℕ) (m : Mark) (x : ℕ) → p < 16 → 0 < x → x < 65536 �
 well_good p m x h some few = ((λ i. lt-ltb p 16 h i && lt-ltb 0 x some i), few)
 
 received_well : (p x : ℕ) (v : Note) (y : Symbol) → p < 16 → x < 65536 → FineSymbol y
-    → All WellFormed (receive_events p v y x)
+    → AllByRecursion WellFormed (receive_events p v y x)
 received_well p x Lost y h few z = (well_item Missed p y h z, tt)
 received_well p x Sound (symbol.Frame f) h few z =
-    (well_item Got p (symbol.Frame f) h z, cond_both (eqb x 0) [] [] (All WellFormed) (λ e. tt) (λ e. tt))
+    (well_item Got p (symbol.Frame f) h z, cond_both (eqb x 0) [] [] (AllByRecursion WellFormed) (λ e. tt) (λ e. tt))
 received_well p x Sound symbol.RRdy h few z =
-    (well_item Got p symbol.RRdy h z, cond_both (eqb x 0) [] [] (All WellFormed) (λ e. tt) (λ e. tt))
+    (well_item Got p symbol.RRdy h z, cond_both (eqb x 0) [] [] (AllByRecursion WellFormed) (λ e. tt) (λ e. tt))
 received_well p x Sound (symbol.Mark m) h few z = (
   well_item Got p (symbol.Mark m) h z,
-  cond_both (eqb x 0) [] (event.MadeGood p m x ∷ []) (All WellFormed) (λ e. tt)
+  cond_both (eqb x 0) [] (event.MadeGood p m x ∷ []) (AllByRecursion WellFormed) (λ e. tt)
       (λ e. let n : x ≢ 0 = eqb-false x 0 e in (well_good p m x h (omega arith) few, tt)),
 )
 
@@ -158,10 +158,10 @@ module _ (s : Port) (h : FinePort s) where
   pub handed_out_fine : FinePort (handed_out s)
   handed_out_fine = lent_fine s.buffers.waiting h.wait
 
-  without_fine : (k : ℕ) (ks : List ℕ) → All FineNumber ks → All FineNumber (without k ks)
+  without_fine : (k : ℕ) (ks : List ℕ) → AllByRecursion FineNumber ks → AllByRecursion FineNumber (without k ks)
   without_fine k [] z = tt
   without_fine k (x ∷ xs) z =
-      cond_both (eqb x k) (without k xs) (x ∷ without k xs) (All FineNumber) (λ e. without_fine k xs z.1)
+      cond_both (eqb x k) (without k xs) (x ∷ without k xs) (AllByRecursion FineNumber) (λ e. without_fine k xs z.1)
       (λ e. (z.0, without_fine k xs z.1))
 
   pub released_fine : (k : ℕ) → FinePort (released s k)
@@ -212,7 +212,7 @@ choice_fine s o z =
     (λ e. cond_both (ltb s.credit.used s.credit.limit) _ _ FineChoice (λ e. frame_fine o z) (λ e. tt))))
 
 -- a number that is among fine ones is fine
-pub number_found : (k : ℕ) (xs : List ℕ) → among k xs ≡ true → All FineNumber xs → FineNumber k
+pub number_found : (k : ℕ) (xs : List ℕ) → among k xs ≡ true → AllByRecursion FineNumber xs → FineNumber k
 number_found k [] e z = absurd (false≢true e)
 number_found k (x ∷ xs) e z = go (eqb x k) refl e (λ q. number_found k xs q z.1)
   where
@@ -229,12 +229,12 @@ module _ {B : Type 0} (M : BankCalls B) where
   -- a chain and its new records
   pub record FineTurn (t : Turn (Chain B)) : Type 0 where
     pub state : Fine t.state
-    pub events : All WellFormed t.events
+    pub events : AllByRecursion WellFormed t.events
 
   -- a chain and the log of its run
   pub record FineRun (c : Chain B) (l : Log) : Type 0 where
     pub state : Fine c
-    pub log : All WellFormed l
+    pub log : AllByRecursion WellFormed l
 
   pub fine_more : (c : Chain B) (l : Log) (t : Turn (Chain B)) → FineRun c l → FineTurn t
       → FineRun t.state (l ++ t.events)
@@ -317,9 +317,9 @@ module _ {B : Type 0} (M : BankCalls B) where
     drawn_fine c p (symbol.Mark m) h = h
 
     freed_well : (links p : ℕ) (y : Symbol) → links ≤ 8 → p < 2 * links → FineSymbol y
-        → All WellFormed (freed_events links p y)
+        → AllByRecursion WellFormed (freed_events links p y)
     freed_well links p (symbol.Frame f) few lt z =
-        cond_both (is_end links p) [] (event.Frame Freed (behind p) f ∷ []) (All WellFormed) (λ e. tt)
+        cond_both (is_end links p) [] (event.Frame Freed (behind p) f ∷ []) (AllByRecursion WellFormed) (λ e. tt)
         (λ e. let q = or_parts (eqb p 0) (eqb p (2 * links - 1)) e in (
           well_frame Freed (behind p) f
               (omega

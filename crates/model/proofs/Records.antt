@@ -2,7 +2,7 @@
 use Rattle.std.proofs.Common.{◌≡◌, ℕ, ◌<◌, Bool, true, false, cond, eqb, List, [], ◌∷◌, ◌++◌, sym, refl, ap, ◌∙◌}
 use Rattle.std.proofs.Common.{subst, append_assoc, append-nil}
 use mathlib.Core.Path.{fun_ext}
-use Rattle.std.specs.List.{AllByRecursion as All}
+use Rattle.std.specs.List.{AllByRecursion}
 use Rattle.symbol.specs.declared.Frame.{Frame}
 use Rattle.symbol.specs.declared.Mark.{Mark as MarkIs}
 use Rattle.symbol.specs.declared.Mark.TheVariants.{BbScS, BbScR}
@@ -36,7 +36,7 @@ account-append p l es = ap (noted_all no_account) (of_port-append p l es)
 
 -- records that are all the port's, and records of which none is
 abbrev pub At : ℕ → Bool → Log → Type 0
-At p t es = All (λ (e : Event). is_at p e ≡ t) es
+At p t es = AllByRecursion (λ (e : Event). is_at p e ≡ t) es
 
 of_port_own : (p : ℕ) (es : Log) → At p true es → records p es ≡ es
 of_port_own p [] h = refl

@@ -1,6 +1,6 @@
 -- The law that records tell the port: each number that a page shows is its count over the log, and none runs over.
 use Rattle.std.specs.Prelude.{◌≡◌, ℕ, ◌+◌, ◌*◌, ◌^◌, ◌<◌, ◌≤◌, length}
-use Rattle.std.specs.List.{AllByRecursion as All}
+use Rattle.std.specs.List.{AllByRecursion}
 use Rattle.reader.specs.Reading.{WellFormed}
 use Rattle.port.specs.Port.{Port}
 use Rattle.model.specs.declared.End.{End}
@@ -68,4 +68,4 @@ module _ {B : Type 0} where
     pub tick : c.tick ≡ ticks l
     pub in_bounds : InBounds c
     -- each record is well-formed, so that the log of a run reads back as its events
-    pub well_formed : All WellFormed l
+    pub well_formed : AllByRecursion WellFormed l

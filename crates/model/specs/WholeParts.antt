@@ -1,6 +1,6 @@
 -- The law of whole parts: what each stretch of a counted stream leaves missing.
 use Rattle.std.specs.Prelude.{◌≡◌, ℕ, ◌+◌, ◌*◌, ◌/◌, ◌^◌, ◌<◌, ◌≤◌, ◌++◌}
-use Rattle.std.specs.List.{AllByRecursion as All}
+use Rattle.std.specs.List.{AllByRecursion}
 use Rattle.bank.specs.Bank.{BankCalls}
 use Rattle.model.specs.Chain.{Chain, facing, port_of, on}
 use Rattle.model.specs.Run.{Log}
@@ -18,7 +18,7 @@ pub record WholePart (n : ℕ) (s : Stretch) : Type 0 where
 -- each ended stretch of a stream on the direction of port p does so; every reported loss is in an ended stretch or in
 -- the open one, and all that was made good in an ended one
 pub record InParts (n : ℕ) (k : Stream) (p : ℕ) (l : Log) : Type 0 where
-  pub each : All (WholePart n) (stretches k p l).ended
+  pub each : AllByRecursion (WholePart n) (stretches k p l).ended
   pub all_lost : reported_lost k (facing p) l ≡
       lost_among (stretches k p l).still_open + lost_in (stretches k p l).ended
   pub all_good : made_good k (facing p) l ≡ good_among (stretches k p l).ended

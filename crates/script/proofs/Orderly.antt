@@ -5,7 +5,7 @@ use Rattle.std.proofs.Common.{refl, ap, ◌∙◌, subst, arith, length-set, get
 use Rattle.std.proofs.ByRecursion.{All-weaker}
 use Rattle.std.proofs.lemmas.Bool.{eqb-true, eqb-false}
 use Rattle.std.proofs.lemmas.Bool.Decides.{nat_tests}
-use Rattle.std.specs.List.{AllByRecursion as All}
+use Rattle.std.specs.List.{AllByRecursion}
 use Rattle.script.specs.declared.command.Command.{Command}
 use Rattle.script.specs.declared.command.Command.TheVariants.{Chain, Login, Lose, Inject, Collect, Step, Drain, Page}
 use Rattle.script.specs.declared.command.Placed.{Placed}
@@ -304,7 +304,7 @@ module _ (p q : Progress) (low : Low p.loses) where
 
 -- no later command has a limit below the stage that was reached
 ahead_of : (p : Progress) (cs : List Placed) → Low p.loses → Accepted p cs
-    → All (λ d. rank p.stage < limit d.command) cs
+    → AllByRecursion (λ d. rank p.stage < limit d.command) cs
 ahead_of p [] low h = tt
 ahead_of p (c ∷ cs) low (q, (e, more)) =
     let a = accepted p q low c.command e in

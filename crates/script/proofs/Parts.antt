@@ -2,7 +2,7 @@
 use Rattle.std.proofs.Common.{◌≡◌, ℕ, suc, ◌+◌, Bool, true, false, not, eqb, List, [], ◌∷◌, ◌++◌, length, sym, refl}
 use Rattle.std.proofs.Common.{ap, ◌∙◌, subst, inl, inr, arith}
 use Rattle.std.proofs.lemmas.Bool.{eqb-true, eqb-false}
-use Rattle.std.specs.List.{AllByRecursion as All}
+use Rattle.std.specs.List.{AllByRecursion}
 use Rattle.script.specs.Laws.{Lined, Apart, Parted}
 use Rattle.script.specs.Text.{Word, onto, lines, goes_on, attached, words}
 use Rattle.script.proofs.Never.{never}
@@ -57,11 +57,11 @@ ink_by b true e h = never (cc)
 ink_by b false e h = eqb-false b 32 e
 
 -- where bytes go on with a word, no gap stands before it
-no_spaces : (bs : List ℕ) → goes_on bs ≡ true → All (λ b. b ≡ 32) bs → ⊥
+no_spaces : (bs : List ℕ) → goes_on bs ≡ true → AllByRecursion (λ b. b ≡ 32) bs → ⊥
 no_spaces [] g h = never (cc)
 no_spaces (b ∷ bs) g h = ink_by b (eqb b 32) refl g h.0
 
-no_gap : (bs gap more : List ℕ) → goes_on bs ≡ true → bs ≡ gap ++ more → All (λ b. b ≡ 32) gap → gap ≡ []
+no_gap : (bs gap more : List ℕ) → goes_on bs ≡ true → bs ≡ gap ++ more → AllByRecursion (λ b. b ≡ 32) gap → gap ≡ []
 no_gap bs [] more g e h = refl
 no_gap bs (b ∷ gap) more g e h = absurd (ink_by b (eqb b 32) refl (sym (ap goes_on e) ∙ g) h.0)
 

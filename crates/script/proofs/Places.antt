@@ -2,7 +2,7 @@
 use Rattle.std.proofs.Common.{◌≡◌, ℕ, Bool, true, false, cond, ◌&&◌, eqb, ltb, leb, List, [], ◌∷◌, length, Some, None}
 use Rattle.std.proofs.Common.{Ok, Err, Option, Result, refl, subst}
 use Rattle.std.specs.Option.{ok_or}
-use Rattle.std.specs.List.{AllByRecursion as All}
+use Rattle.std.specs.List.{AllByRecursion}
 use Rattle.symbol.specs.Symbols.{kind_with}
 use Rattle.script.specs.declared.command.Command.{Command}
 use Rattle.script.specs.declared.command.Command.TheVariants.{Chain}
@@ -61,25 +61,25 @@ on_ok_or k (Some x) f h = tt
 on_ok_or k None f h = h
 
 module _ (k : ℕ) (head : Place) (at : head.line ≡ k) where
-  on_taken : (ts : List Seen) → All (TokenOn k) ts → On k (TokenOn k) (taken head ts)
+  on_taken : (ts : List Seen) → AllByRecursion (TokenOn k) ts → On k (TokenOn k) (taken head ts)
   on_taken [] h = at
   on_taken (t ∷ ts) h = h.0
 
-  on_rest : (ts : List Seen) → All (TokenOn k) ts → All (TokenOn k) (rest ts)
+  on_rest : (ts : List Seen) → AllByRecursion (TokenOn k) ts → AllByRecursion (TokenOn k) (rest ts)
   on_rest [] h = tt
   on_rest (t ∷ ts) h = h.1
 
-  on_taken_number : (ts : List Seen) → All (TokenOn k) ts → On k (NumberOn k) (taken_number head ts)
+  on_taken_number : (ts : List Seen) → AllByRecursion (TokenOn k) ts → On k (NumberOn k) (taken_number head ts)
   on_taken_number ts h =
       on_then k (TokenOn k) (NumberOn k) (taken head ts) as_number (on_taken ts h)
       (λ t e. on_number_by k t.kind t.place e)
 
   -- a number, and what follows from it
-  with_number : {B : Type 0} (ts : List Seen) (f : Number → Result B Fault) → All (TokenOn k) ts
+  with_number : {B : Type 0} (ts : List Seen) (f : Number → Result B Fault) → AllByRecursion (TokenOn k) ts
       → ((n : Number) → NumberOn k n → On k Any (f n)) → On k Any (then (taken_number head ts) f)
   with_number ts f h g = on_then k (NumberOn k) Any (taken_number head ts) f (on_taken_number ts h) g
 
-  with_token : {B : Type 0} (ts : List Seen) (f : Seen → Result B Fault) → All (TokenOn k) ts
+  with_token : {B : Type 0} (ts : List Seen) (f : Seen → Result B Fault) → AllByRecursion (TokenOn k) ts
       → ((t : Seen) → TokenOn k t → On k Any (f t)) → On k Any (then (taken head ts) f)
   with_token ts f h g = on_then k (TokenOn k) Any (taken head ts) f (on_taken ts h) g
 
@@ -98,14 +98,14 @@ module _ (k : ℕ) (head : Place) (at : head.line ≡ k) where
   on_letter : {A : Type 0} (f : ℕ → Option A) (t : Seen) → TokenOn k t → On k Any (as_letter f t)
   on_letter f t h = on_ok_or k (letter_by f t.kind) (fault_at OutOfRange t.place) h
 
-  on_chain : (ts : List Seen) → All (TokenOn k) ts → On k Any (chain_of head ts)
+  on_chain : (ts : List Seen) → AllByRecursion (TokenOn k) ts → On k Any (chain_of head ts)
   on_chain ts h =
       with_number ts chain_by h (λ n e.
       on_cond k Any (eqb n.value 1) (Ok (Chain One))
       (cond (eqb n.value 3) (Ok (Chain Three)) (fault OutOfRange n.place)) tt
       (on_cond k Any (eqb n.value 3) (Ok (Chain Three)) (fault OutOfRange n.place) tt e))
 
-  on_login : (ts : List Seen) → All (TokenOn k) ts → On k Any (login_of head ts)
+  on_login : (ts : List Seen) → AllByRecursion (TokenOn k) ts → On k Any (login_of head ts)
   on_login ts h =
       let h1 = on_rest ts h in
       let h2 = on_rest (rest ts) h1 in
@@ -117,7 +117,7 @@ module _ (k : ℕ) (head : Place) (at : head.line ≡ k) where
       with_number (rest (rest (rest ts))) _ h3 (λ m e3.
       with_number (rest (rest (rest (rest ts)))) _ h4 (λ n e4. tt)))))
 
-  on_lose : (ds : ℕ) (ts : List Seen) → All (TokenOn k) ts → On k Any (lose_of ds head ts)
+  on_lose : (ds : ℕ) (ts : List Seen) → AllByRecursion (TokenOn k) ts → On k Any (lose_of ds head ts)
   on_lose ds ts h =
       let h1 = on_rest ts h in
       let h2 = on_rest (rest ts) h1 in
@@ -131,14 +131,14 @@ module _ (k : ℕ) (head : Place) (at : head.line ≡ k) where
       with_value (within 1 99999999 i) _ (on_within 1 99999999 i e2) (λ first.
       with_value (within 1 99999999 c) _ (on_within 1 99999999 c e3) (λ count. tt))))))))
 
-  on_frames : (ts : List Seen) → All (TokenOn k) ts → On k Any (frames_of head ts)
+  on_frames : (ts : List Seen) → AllByRecursion (TokenOn k) ts → On k Any (frames_of head ts)
   on_frames ts h =
       with_token ts _ h (λ t e.
       with_number (rest ts) _ (on_rest ts h) (λ n e1.
       with_value (as_end t) _ (on_letter end_with t e) (λ end.
       with_value (within 1 1000 n) _ (on_within 1 1000 n e1) (λ count. tt))))
 
-  on_arguments : (w : Keyword) (ds : ℕ) (ts : List Seen) → All (TokenOn k) ts → On k Any (arguments_of w ds head ts)
+  on_arguments : (w : Keyword) (ds : ℕ) (ts : List Seen) → AllByRecursion (TokenOn k) ts → On k Any (arguments_of w ds head ts)
   on_arguments keyword.Chain ds ts h = on_chain ts h
   on_arguments keyword.Login ds ts h = on_login ts h
   on_arguments keyword.Lose ds ts h = on_lose ds ts h
@@ -149,7 +149,7 @@ module _ (k : ℕ) (head : Place) (at : head.line ≡ k) where
   on_arguments keyword.Drain ds ts h = tt
   on_arguments keyword.Page ds ts h = tt
 
-  on_command : (w : Option Keyword) (ds : ℕ) (ts : List Seen) → All (TokenOn k) ts
+  on_command : (w : Option Keyword) (ds : ℕ) (ts : List Seen) → AllByRecursion (TokenOn k) ts
       → On k Any (command_by w ds head ts)
   on_command None ds ts h = at
   on_command (Some w) ds ts h =
@@ -160,7 +160,7 @@ module _ (k : ℕ) (head : Place) (at : head.line ≡ k) where
   on_ordered_by (Ok p) c = tt
   on_ordered_by (Err r) c = at
 
-on_tokens : (k : ℕ) (p : Progress) (ts : List Seen) → All (TokenOn k) ts → On k Any (read_tokens p ts)
+on_tokens : (k : ℕ) (p : Progress) (ts : List Seen) → AllByRecursion (TokenOn k) ts → On k Any (read_tokens p ts)
 on_tokens k p [] h = tt
 on_tokens k p (t ∷ ts) h =
     let head = t.place in
@@ -170,7 +170,7 @@ on_tokens k p (t ∷ ts) h =
     (λ c. on_ordered_by k head h.0 (after p c) c))
     (λ r. tt)
 
-all_placed : (k : ℕ) (ws : List Word) → All (TokenOn k) (placed k ws)
+all_placed : (k : ℕ) (ws : List Word) → AllByRecursion (TokenOn k) (placed k ws)
 all_placed k [] = tt
 all_placed k (w ∷ ws) = (refl, all_placed k ws)
 

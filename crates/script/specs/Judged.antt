@@ -1,7 +1,7 @@
 -- What is known of every script: which fault is told, and in which order its commands stand.
 use Rattle.std.specs.Prelude.{◌≡◌, ℕ, ◌+◌, ◌<◌, ◌≤◌, Bool, true, false, cond, not, ◌⊎◌, List, [], ◌∷◌, ◌++◌, length}
 use Rattle.std.specs.Prelude.{Ok, Err, Result, ◌==◌}
-use Rattle.std.specs.List.{AllByRecursion as All}
+use Rattle.std.specs.List.{AllByRecursion}
 use Rattle.script.specs.declared.command.Command.{Command}
 use Rattle.script.specs.declared.command.Command.TheVariants.{Chain, Login, Lose, Inject, Collect, Step, Drain, Page}
 use Rattle.script.specs.declared.command.Placed.{Placed}
@@ -95,7 +95,7 @@ Chained (c ∷ cs) = is_chain c.command ≡ true
 -- each command may stand behind each before it
 abbrev pub Followed : List Placed → Type 0
 Followed [] = Unit {0}
-Followed (c ∷ cs) = All (λ d. follows c.command d.command ≡ true) cs × Followed cs
+Followed (c ∷ cs) = AllByRecursion (λ d. follows c.command d.command ≡ true) cs × Followed cs
 
 -- the commands of a script in their order, with at most 16 loses for a direction
 pub record Orderly (cs : List Placed) : Type 0 where
