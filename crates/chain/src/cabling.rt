@@ -13,7 +13,7 @@ use model::Refusal;
 
 // Whether no item waits in the first `count` channels.
 fn all_idle<B: Bank>(bank: &B, count: u8) -> bool
-    ensures { result ≡ all_idle calls (model bank.now) count }
+    ensures { result ≡ all_idle B.Bank.calls (B.Bank.model bank.now) count }
 {
     let mut idle = true;
     for d in 0..count {
@@ -23,7 +23,7 @@ fn all_idle<B: Bank>(bank: &B, count: u8) -> bool
 }
 
 fn links_of<B: Bank>(bank: &B) -> u8
-    ensures value { result ≡ cabled_links calls (model bank.now) }
+    ensures value { result ≡ cabled_links B.Bank.calls (B.Bank.model bank.now) }
     ensures few { result ≤ 8 }
 {
     let count = bank.count();
@@ -37,8 +37,8 @@ fn links_of<B: Bank>(bank: &B) -> u8
 // A chain with half as many links as the bank has channels: no links where these are none, an odd number or more than
 // 16, or where an item waits in one. The four laws hold of every run from here, whatever the calls.
 pub fn cable<B: Bank>(bank: B) -> Chain<B, Cabled>
-    ensures state { chain_of model result.inner ≡ cabled calls (model bank) }
-    ensures laws { EveryRun calls (model bank) }
+    ensures state { chain_of B.Bank.model result.inner ≡ cabled B.Bank.calls (B.Bank.model bank) }
+    ensures laws { EveryRun B.Bank.calls (B.Bank.model bank) }
 {
     let links = links_of(&bank);
     let ports = Ports::new();
@@ -62,20 +62,20 @@ impl<B: Bank> Chain<B, Cabled> {
         west_n: u32,
         east_n: u32,
     ) -> Result<(), Refusal>
-        ensures state { chain_of model self.new.inner ≡
-            (logins calls (chain_of model self.old.inner) link west east west_n east_n).state }
+        ensures state { chain_of B.Bank.model self.new.inner ≡
+            (logins B.Bank.calls (chain_of B.Bank.model self.old.inner) link west east west_n east_n).state }
         ensures answer { result ≡ answer
-            (login_refusal calls (chain_of model self.old.inner) link west east west_n east_n) tt }
-        ensures run { Continues calls is_cabled is_cabled
-            (chain_of model self.old.inner) (chain_of model self.new.inner) [] }
+            (login_refusal B.Bank.calls (chain_of B.Bank.model self.old.inner) link west east west_n east_n) tt }
+        ensures run { Continues B.Bank.calls is_cabled is_cabled
+            (chain_of B.Bank.model self.old.inner) (chain_of B.Bank.model self.new.inner) [] }
     {
         self.inner.login(link, west, east, west_n, east_n)
     }
 
     pub fn start(self) -> Chain<B, Running>
-        ensures state { chain_of model result.inner ≡ chain_of model self.inner }
-        ensures run { Continues calls is_cabled is_running
-            (chain_of model self.inner) (chain_of model result.inner) [] }
+        ensures state { chain_of B.Bank.model result.inner ≡ chain_of B.Bank.model self.inner }
+        ensures run { Continues B.Bank.calls is_cabled is_running
+            (chain_of B.Bank.model self.inner) (chain_of B.Bank.model result.inner) [] }
     {
         let Chain { inner, state: _ } = self;
         let state = Running;

@@ -15,11 +15,11 @@ use port::figures::Figures;
 impl<B: Bank, S: Moving> Chain<B, S> {
     // The tick rises by one, the bank steps, each port takes at most one item, then each sends at most one symbol.
     pub fn step(&mut self, sheet: &mut [u8], used: usize) -> Result<usize, Refusal>
-        ensures call { Step calls (chain_of model self.old.inner) sheet.old used
-            (chain_of model self.new.inner) sheet.new result }
-        ensures run { Continues calls phase phase
-            (chain_of model self.old.inner) (chain_of model self.new.inner)
-            (steps calls (chain_of model self.old.inner) (room sheet.old used)).events }
+        ensures call { Step B.Bank.calls (chain_of B.Bank.model self.old.inner) sheet.old used
+            (chain_of B.Bank.model self.new.inner) sheet.new result }
+        ensures run { Continues B.Bank.calls S.Moving.phase S.Moving.phase
+            (chain_of B.Bank.model self.old.inner) (chain_of B.Bank.model self.new.inner)
+            (steps B.Bank.calls (chain_of B.Bank.model self.old.inner) (room sheet.old used)).events }
     {
         self.inner.step(sheet, used)
     }
@@ -31,11 +31,11 @@ impl<B: Bank, S: Moving> Chain<B, S> {
         sheet: &mut [u8],
         used: usize,
     ) -> Result<(Token, usize), Refusal>
-        ensures call { Collect calls (chain_of model self.old.inner) end sheet.old used
-            (chain_of model self.new.inner) sheet.new result }
-        ensures run { Continues calls phase phase
-            (chain_of model self.old.inner) (chain_of model self.new.inner)
-            (collects calls (chain_of model self.old.inner) end
+        ensures call { Collect B.Bank.calls (chain_of B.Bank.model self.old.inner) end sheet.old used
+            (chain_of B.Bank.model self.new.inner) sheet.new result }
+        ensures run { Continues B.Bank.calls S.Moving.phase S.Moving.phase
+            (chain_of B.Bank.model self.old.inner) (chain_of B.Bank.model self.new.inner)
+            (collects B.Bank.calls (chain_of B.Bank.model self.old.inner) end
             (room sheet.old used)).events }
     {
         self.inner.collect(end, sheet, used)
@@ -48,11 +48,11 @@ impl<B: Bank, S: Moving> Chain<B, S> {
         sheet: &mut [u8],
         used: usize,
     ) -> Result<usize, (Token, Refusal)>
-        ensures call { Release calls (chain_of model self.old.inner) token sheet.old used
-            (chain_of model self.new.inner) sheet.new result }
-        ensures run { Continues calls phase phase
-            (chain_of model self.old.inner) (chain_of model self.new.inner)
-            (releases calls (chain_of model self.old.inner) token.end token.frame.number
+        ensures call { Release B.Bank.calls (chain_of B.Bank.model self.old.inner) token sheet.old used
+            (chain_of B.Bank.model self.new.inner) sheet.new result }
+        ensures run { Continues B.Bank.calls S.Moving.phase S.Moving.phase
+            (chain_of B.Bank.model self.old.inner) (chain_of B.Bank.model self.new.inner)
+            (releases B.Bank.calls (chain_of B.Bank.model self.old.inner) token.end token.frame.number
             (room sheet.old used)).events }
     {
         self.inner.release(token, sheet, used)
@@ -61,27 +61,27 @@ impl<B: Bank, S: Moving> Chain<B, S> {
 
 impl<B: Bank, S: Moving> Chain<B, S> {
     pub fn links(&self) -> u8
-        ensures { result ≡ (chain_of model self.now.inner).links }
+        ensures { result ≡ (chain_of B.Bank.model self.now.inner).links }
     {
         self.inner.links
     }
 
     pub fn tick(&self) -> u32
-        ensures { result ≡ (chain_of model self.now.inner).tick }
+        ensures { result ≡ (chain_of B.Bank.model self.now.inner).tick }
     {
         self.inner.tick
     }
 
     // The letter of the direction that a port sends on.
     pub fn letter(&self, port: u8) -> u8
-        ensures { result ≡ letter_at calls (model self.now.inner.bank) port }
+        ensures { result ≡ letter_at B.Bank.calls (B.Bank.model self.now.inner.bank) port }
     {
         self.inner.bank.letter(port)
     }
 
     // What a page shows of a port; none where the chain has no such port.
     pub fn figures(&self, port: u8) -> Option<Figures>
-        ensures { result ≡ figures_at (chain_of model self.now.inner) port }
+        ensures { result ≡ figures_at (chain_of B.Bank.model self.now.inner) port }
     {
         if port < 2 * self.inner.links {
             Some(self.inner.ports.figures(port))

@@ -15,20 +15,20 @@ use model::{End, Refusal};
 impl<B: Bank> Chain<B, Running> {
     // The next frame joins the outbox of an end, and is logged behind the bytes used of the sheet.
     pub fn inject(&mut self, end: End, sheet: &mut [u8], used: usize) -> Result<usize, Refusal>
-        ensures call { Inject calls (chain_of model self.old.inner) end sheet.old used
-            (chain_of model self.new.inner) sheet.new result }
-        ensures run { Continues calls is_running is_running
-            (chain_of model self.old.inner) (chain_of model self.new.inner)
-            (injects calls (chain_of model self.old.inner) end (room sheet.old used)).events }
+        ensures call { Inject B.Bank.calls (chain_of B.Bank.model self.old.inner) end sheet.old used
+            (chain_of B.Bank.model self.new.inner) sheet.new result }
+        ensures run { Continues B.Bank.calls is_running is_running
+            (chain_of B.Bank.model self.old.inner) (chain_of B.Bank.model self.new.inner)
+            (injects B.Bank.calls (chain_of B.Bank.model self.old.inner) end (room sheet.old used)).events }
     {
         self.inner.inject(end, sheet, used)
     }
 
     // No frame is injected from here on.
     pub fn drain(self) -> Chain<B, Draining>
-        ensures state { chain_of model result.inner ≡ chain_of model self.inner }
-        ensures run { Continues calls is_running is_draining
-            (chain_of model self.inner) (chain_of model result.inner) [] }
+        ensures state { chain_of B.Bank.model result.inner ≡ chain_of B.Bank.model self.inner }
+        ensures run { Continues B.Bank.calls is_running is_draining
+            (chain_of B.Bank.model self.inner) (chain_of B.Bank.model result.inner) [] }
     {
         let Chain { inner, state: _ } = self;
         let state = Draining;

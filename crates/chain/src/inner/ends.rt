@@ -24,7 +24,7 @@ impl<B: Bank> Inner<B> {
         east_n: u32,
     ) -> Option<Refusal>
         ensures value { result ≡
-            login_refusal calls (chain_of model self.now) link west east west_n east_n }
+            login_refusal B.Bank.calls (chain_of B.Bank.model self.now) link west east west_n east_n }
         ensures open { IfNone result ((link < self.now.links) × (1 ≤ west) × (west ≤ 32) × (1 ≤ east)
             × (east ≤ 32) × (east_n ≤ 15)) }
     {
@@ -53,10 +53,10 @@ impl<B: Bank> Inner<B> {
         west_n: u32,
         east_n: u32,
     ) -> Result<(), Refusal>
-        ensures state { chain_of model self.new ≡
-            (logins calls (chain_of model self.old) link west east west_n east_n).state }
+        ensures state { chain_of B.Bank.model self.new ≡
+            (logins B.Bank.calls (chain_of B.Bank.model self.old) link west east west_n east_n).state }
         ensures answer { result ≡
-            answer (login_refusal calls (chain_of model self.old) link west east west_n east_n) tt }
+            answer (login_refusal B.Bank.calls (chain_of B.Bank.model self.old) link west east west_n east_n) tt }
     {
         if let Some(refusal) = self.login_refusal(link, west, east, west_n, east_n) {
             return Err(refusal);
@@ -70,9 +70,9 @@ impl<B: Bank> Inner<B> {
     }
 
     fn inject_refusal(&self, end: End, room: usize) -> Option<Refusal>
-        ensures value { result ≡ inject_refusal calls (chain_of model self.now) end room }
+        ensures value { result ≡ inject_refusal B.Bank.calls (chain_of B.Bank.model self.now) end room }
         ensures open { MatchOption result
-            ((box_full (port_at_end (chain_of model self.now) end).outbox ≡ false) × (call_bytes ≤ room))
+            ((box_full (port_at_end (chain_of B.Bank.model self.now) end).outbox ≡ false) × (call_bytes ≤ room))
             (λ _. Unit {0}) }
     {
         if self.links == 0 {
@@ -94,8 +94,8 @@ impl<B: Bank> Inner<B> {
         sheet: &mut [u8],
         used: usize,
     ) -> Result<usize, Refusal>
-        ensures { Inject calls (chain_of model self.old) end sheet.old used
-            (chain_of model self.new) sheet.new result }
+        ensures { Inject B.Bank.calls (chain_of B.Bank.model self.old) end sheet.old used
+            (chain_of B.Bank.model self.new) sheet.new result }
     {
         if let Some(refusal) = self.inject_refusal(end, sheet.len().saturating_sub(used)) {
             return Err(refusal);
@@ -109,7 +109,7 @@ impl<B: Bank> Inner<B> {
 
     // The oldest frame that waits at an end, or why it is not handed out.
     fn collectable(&self, end: End, room: usize) -> Result<Frame, Refusal>
-        ensures value { result ≡ collectable calls (chain_of model self.now) end room }
+        ensures value { result ≡ collectable B.Bank.calls (chain_of B.Bank.model self.now) end room }
         ensures open { OnOk result (call_bytes ≤ room) }
     {
         if self.links == 0 {
@@ -132,8 +132,8 @@ impl<B: Bank> Inner<B> {
         sheet: &mut [u8],
         used: usize,
     ) -> Result<(Token, usize), Refusal>
-        ensures { Collect calls (chain_of model self.old) end sheet.old used
-            (chain_of model self.new) sheet.new result }
+        ensures { Collect B.Bank.calls (chain_of B.Bank.model self.old) end sheet.old used
+            (chain_of B.Bank.model self.new) sheet.new result }
     {
         let frame = self.collectable(end, sheet.len().saturating_sub(used))?;
         let port = self.end_port(end);
@@ -143,7 +143,7 @@ impl<B: Bank> Inner<B> {
     }
 
     fn release_refusal(&self, end: End, number: u32, room: usize) -> Option<Refusal>
-        ensures value { result ≡ release_refusal calls (chain_of model self.now) end number room }
+        ensures value { result ≡ release_refusal B.Bank.calls (chain_of B.Bank.model self.now) end number room }
         ensures open { IfNone result (call_bytes ≤ room) }
     {
         if !self.ports.is_out(self.end_port(end), number) {
@@ -162,8 +162,8 @@ impl<B: Bank> Inner<B> {
         sheet: &mut [u8],
         used: usize,
     ) -> Result<usize, (Token, Refusal)>
-        ensures { Release calls (chain_of model self.old) token sheet.old used
-            (chain_of model self.new) sheet.new result }
+        ensures { Release B.Bank.calls (chain_of B.Bank.model self.old) token sheet.old used
+            (chain_of B.Bank.model self.new) sheet.new result }
     {
         let room = sheet.len().saturating_sub(used);
         if let Some(refusal) = self.release_refusal(token.end, token.frame.number, room) {

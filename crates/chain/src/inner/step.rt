@@ -8,7 +8,7 @@ ghost use Rattle.model.specs.Chain.{drawn, each_port, freed_events, sends, sourc
 ghost use Rattle.model.specs.Chain.{stepped, takes, ticked};
 
 use super::Inner;
-use super::links::{behind, facing};
+use super::numbers::{behind, facing};
 use crate::write::write_taken;
 use bank::Bank;
 use eventlog::event::{Event, FrameKind, ItemKind};
@@ -20,8 +20,8 @@ impl<B: Bank> Inner<B> {
     // Port p asks the direction that it takes from, and takes what that hands out.
     fn take(&mut self, p: u8, sheet: &mut [u8], used: usize) -> usize
         requires { p < 16 }
-        ensures { Acted (takes calls (chain_of model self.old) p) (sheet.old, used)
-            (chain_of model self.new) (sheet.new, result) }
+        ensures { Acted (takes B.Bank.calls (chain_of B.Bank.model self.old) p) (sheet.old, used)
+            (chain_of B.Bank.model self.new) (sheet.new, result) }
     {
         let Some(item) = self.bank.take(facing(p)) else {
             return used;
@@ -33,7 +33,7 @@ impl<B: Bank> Inner<B> {
     // The oldest frame that waits for port p.
     fn source(&self, p: u8) -> Option<Frame>
         requires { p < 2 * self.now.links }
-        ensures { result ≡ source calls (chain_of model self.now) p }
+        ensures { result ≡ source B.Bank.calls (chain_of B.Bank.model self.now) p }
     {
         if p == 0 || p == self.last_port() {
             self.ports.oldest_injected(p)
@@ -45,8 +45,8 @@ impl<B: Bank> Inner<B> {
     // A frame that port p has sent leaves the place where it waited.
     fn draw(&mut self, p: u8, symbol: Symbol, sheet: &mut [u8], used: usize) -> usize
         requires { p < 2 * self.old.links }
-        ensures state { chain_of model self.new ≡
-            drawn calls (chain_of model self.old) p symbol }
+        ensures state { chain_of B.Bank.model self.new ≡
+            drawn B.Bank.calls (chain_of B.Bank.model self.old) p symbol }
         ensures sheet { ◌≡◌ {A = Sheet} (sheet.new, result)
             (logged (sheet.old, used) (freed_events self.old.links p symbol)) }
     {
@@ -69,8 +69,8 @@ impl<B: Bank> Inner<B> {
     // Port p sends at most one symbol.
     fn send(&mut self, p: u8, sheet: &mut [u8], used: usize) -> usize
         requires { p < 2 * self.old.links }
-        ensures { Acted (sends calls (chain_of model self.old) p) (sheet.old, used)
-            (chain_of model self.new) (sheet.new, result) }
+        ensures { Acted (sends B.Bank.calls (chain_of B.Bank.model self.old) p) (sheet.old, used)
+            (chain_of B.Bank.model self.new) (sheet.new, result) }
     {
         if !self.bank.has_space(p) {
             return used;
@@ -88,8 +88,8 @@ impl<B: Bank> Inner<B> {
     // Each port in rising order takes.
     fn take_all(&mut self, sheet: &mut [u8], used: usize) -> usize
         ensures { Acted
-            (each_port (takes calls) (2 * self.old.links) (chain_of model self.old))
-            (sheet.old, used) (chain_of model self.new) (sheet.new, result) }
+            (each_port (takes B.Bank.calls) (2 * self.old.links) (chain_of B.Bank.model self.old))
+            (sheet.old, used) (chain_of B.Bank.model self.new) (sheet.new, result) }
     {
         let mut at = used;
         for p in 0..2 * self.links {
@@ -101,8 +101,8 @@ impl<B: Bank> Inner<B> {
     // Each port in rising order sends.
     fn send_all(&mut self, sheet: &mut [u8], used: usize) -> usize
         ensures { Acted
-            (each_port (sends calls) (2 * self.old.links) (chain_of model self.old))
-            (sheet.old, used) (chain_of model self.new) (sheet.new, result) }
+            (each_port (sends B.Bank.calls) (2 * self.old.links) (chain_of B.Bank.model self.old))
+            (sheet.old, used) (chain_of B.Bank.model self.new) (sheet.new, result) }
     {
         let mut at = used;
         for p in 0..2 * self.links {
@@ -114,8 +114,8 @@ impl<B: Bank> Inner<B> {
     // The tick rises, and the bank steps.
     fn next_tick(&mut self)
         requires { self.old.tick < 16777215 }
-        ensures { chain_of model self.new ≡
-            (ticked calls (chain_of model self.old)).state }
+        ensures { chain_of B.Bank.model self.new ≡
+            (ticked B.Bank.calls (chain_of B.Bank.model self.old)).state }
     {
         self.tick += 1;
         self.bank.step();
@@ -124,8 +124,8 @@ impl<B: Bank> Inner<B> {
     // A step that nothing refuses.
     pub(crate) fn step_all(&mut self, sheet: &mut [u8], used: usize) -> usize
         requires { self.old.tick < 16777215 }
-        ensures { Acted (stepped calls (chain_of model self.old)) (sheet.old, used)
-            (chain_of model self.new) (sheet.new, result) }
+        ensures { Acted (stepped B.Bank.calls (chain_of B.Bank.model self.old)) (sheet.old, used)
+            (chain_of B.Bank.model self.new) (sheet.new, result) }
     {
         self.next_tick();
         let ticked = write_event(sheet, used, Event::Tick(self.tick));
@@ -137,7 +137,7 @@ impl<B: Bank> Inner<B> {
 impl<B: Bank> Inner<B> {
     // Why a step is refused, with so many bytes left.
     fn step_refusal(&self, room: usize) -> Option<Refusal>
-        ensures value { result ≡ step_refusal calls (chain_of model self.now) room }
+        ensures value { result ≡ step_refusal B.Bank.calls (chain_of B.Bank.model self.now) room }
         ensures open { MatchOption result
             ((self.now.tick < 16777215) × (step_bytes self.now.links ≤ room)) (λ _. Unit {0}) }
     {
@@ -154,8 +154,8 @@ impl<B: Bank> Inner<B> {
     }
 
     pub(crate) fn step(&mut self, sheet: &mut [u8], used: usize) -> Result<usize, Refusal>
-        ensures { Step calls (chain_of model self.old) sheet.old used
-            (chain_of model self.new) sheet.new result }
+        ensures { Step B.Bank.calls (chain_of B.Bank.model self.old) sheet.old used
+            (chain_of B.Bank.model self.new) sheet.new result }
     {
         if let Some(refusal) = self.step_refusal(sheet.len().saturating_sub(used)) {
             return Err(refusal);

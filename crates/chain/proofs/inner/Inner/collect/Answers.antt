@@ -13,9 +13,9 @@ returns-in_err-frame g c =
     let sheet = c.args.sheet.now in
     let used = c.args.used in
     let e = c.args.end in
-    let p = err_from_is_err_and c.from-residual.result c.from-residual.ensures.1 in
+    let p = err_from_is_err_and c.from_residual.result c.from_residual.ensures.1 in
     refused_collect M self e sheet used (used + call_bytes) (collectable M self e (length sheet - used))
-    c.in_err-frame.field-0.0 c.from-residual.result
+    c.in_err-frame.field-0.0 c.from_residual.result
     (c.in_err-frame.ensures.value ∙ ap (collectable M self e) c.saturating_sub.ensures)
     (p.1 ∙ ap Err p.2)
 
@@ -37,4 +37,4 @@ returns g c =
     (search rules) in
     made_collect M self e sheet used (used + call_bytes) (collectable M self e (length sheet - used)) frame _ _ _
     (c.in_ok-frame.ensures.value ∙ ap (collectable M self e) c.saturating_sub.ensures) (search rules)
-    w w.end-is
+    w w.end_is

@@ -33,4 +33,4 @@ returns g c =
     (inject_refusal M self c.args.end (length sheet - used)) _ _ _ _
     (c.in_default.ensures.value ∙ ap (inject_refusal M self c.args.end) c.saturating_sub.ensures)
     (search rules)
-    w (ap Ok w.end-is)
+    w (ap Ok w.end_is)

@@ -38,4 +38,4 @@ returns g c =
     (release_refusal M self token.end token.frame.number (length sheet - used)) _ _ _ _
     (c.in_default.ensures.value
     ∙ ap (release_refusal M self token.end token.frame.number) c.saturating_sub-room.ensures) (search rules)
-    w (ap Ok w.end-is)
+    w (ap Ok w.end_is)

@@ -32,4 +32,4 @@ returns g c =
     (step_refusal M self (length sheet - used)) _ _ _ _
     (c.in_default.ensures.value ∙ ap (step_refusal M self) c.saturating_sub.ensures)
     c.step_all.ensures.state
-    w (ap Ok w.end-is)
+    w (ap Ok w.end_is)

@@ -29,13 +29,13 @@ pub(crate) fn behind(p: u8) -> u8
 
 impl<B: Bank> Inner<B> {
     pub(crate) fn last_port(&self) -> u8
-        ensures { result ≡ last_port (chain_of model self.now) }
+        ensures { result ≡ last_port (chain_of B.Bank.model self.now) }
     {
         (2 * self.links).saturating_sub(1)
     }
 
     pub(crate) fn end_port(&self, end: End) -> u8
-        ensures { result ≡ end_port (chain_of model self.now) end }
+        ensures { result ≡ end_port (chain_of B.Bank.model self.now) end }
     {
         match end {
             End::West => 0,
