@@ -1,6 +1,7 @@
 // creditlog: a log in words, or the totals of its ports.
 #![tactic(auto)]
 
+use anyhow::bail;
 use listing::part::list_part;
 use reader::reader::Reader;
 use std::io::{Read, Write};
@@ -26,7 +27,7 @@ fn parse_args(rt: &HostRuntime) -> anyhow::Result<Request> {
         if arg.as_str() == "--summary" {
             request.summary = true;
         } else if arg.as_str().starts_with('-') || request.file.is_some() {
-            return Err(USAGE.into());
+            bail!("{USAGE}");
         } else {
             request.file = Some(arg);
         }

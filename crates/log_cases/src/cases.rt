@@ -2,6 +2,8 @@
 
 use reader::read::read_log;
 use reader::record::BadRecord;
+use std::alloc::Global;
+use std::process::Abort;
 use std::test::*;
 
 #[derive(Clone, Copy)]
@@ -38,11 +40,11 @@ fn told(bad: Option<BadRecord>) -> (u8, usize) {
     }
 }
 
-fn check_all(rt: HostRuntime, cases: &[Case]) -> Result<(), Fail> {
+fn check_all(rt: &impl Abort, alloc: Global, cases: &[Case]) -> Result<(), Fail> {
     for case in cases {
-        let reading = read_log(rt.alloc(), case.log)?;
-        assert_eq!(reading.records.len(), case.records);
-        assert_eq!(told(reading.bad), (case.refused, case.place));
+        let reading = read_log(alloc, case.log)?;
+        assert_eq!(rt; reading.records.len(), case.records);
+        assert_eq!(rt; told(reading.bad), (case.refused, case.place));
     }
     Ok(())
 }
@@ -51,7 +53,8 @@ fn check_all(rt: HostRuntime, cases: &[Case]) -> Result<(), Fail> {
 #[test]
 fn rows(rt: HostRuntime) -> Result<(), Fail> {
     check_all(
-        rt,
+        &rt,
+        rt.alloc(),
         &[
             read(&[], 0),
             read(&[0x84, 1, 0, 0, 0, 1], 1),
@@ -79,7 +82,8 @@ fn rows(rt: HostRuntime) -> Result<(), Fail> {
 #[test]
 fn cut_logs(rt: HostRuntime) -> Result<(), Fail> {
     check_all(
-        rt,
+        &rt,
+        rt.alloc(),
         &[
             refused(&[0x84], 0, 11, 0),
             refused(&[0x84, 1, 0, 0, 0], 0, 11, 0),
@@ -100,7 +104,8 @@ fn cut_logs(rt: HostRuntime) -> Result<(), Fail> {
 #[test]
 fn wrong_rows(rt: HostRuntime) -> Result<(), Fail> {
     check_all(
-        rt,
+        &rt,
+        rt.alloc(),
         &[
             // no bit at all, and maps without the kind
             refused(&[0x00], 0, 12, 0),
@@ -134,7 +139,8 @@ fn wrong_rows(rt: HostRuntime) -> Result<(), Fail> {
 #[test]
 fn wrong_fields(rt: HostRuntime) -> Result<(), Fail> {
     check_all(
-        rt,
+        &rt,
+        rt.alloc(),
         &[
             // ports above 15
             refused(&[0xE0, 2, 16, b'r'], 0, 13, 0),
