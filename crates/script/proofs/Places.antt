@@ -138,7 +138,8 @@ module _ (k : ℕ) (head : Place) (at : head.line ≡ k) where
       with_value (as_end t) _ (on_letter end_with t e) (λ end.
       with_value (within 1 1000 n) _ (on_within 1 1000 n e1) (λ count. tt))))
 
-  on_arguments : (w : Keyword) (ds : ℕ) (ts : List Seen) → AllByRecursion (TokenOn k) ts → On k Any (arguments_of w ds head ts)
+  on_arguments : (w : Keyword) (ds : ℕ) (ts : List Seen) → AllByRecursion (TokenOn k) ts
+      → On k Any (arguments_of w ds head ts)
   on_arguments keyword.Chain ds ts h = on_chain ts h
   on_arguments keyword.Login ds ts h = on_login ts h
   on_arguments keyword.Lose ds ts h = on_lose ds ts h
