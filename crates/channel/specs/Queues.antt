@@ -16,7 +16,8 @@ empty_idle n (x ∷ xs) l e = absurd (false≢true e)
 pub pushed_some : {X : Type 0} (n : ℕ) (xs : List X) (x : X) → empty xs ≡ false → empty (pushed n xs x) ≡ false
 pushed_some n [] x e = absurd (true≢false e)
 pushed_some n (y ∷ xs) x e =
-    cond_both (nat_lt (length (y ∷ xs)) n) ((y ∷ xs) ++ (x ∷ [])) (y ∷ xs) (λ ys. empty ys ≡ false) (λ _. refl) (λ _. refl)
+    cond_both (nat_lt (length (y ∷ xs)) n) ((y ∷ xs) ++ (x ∷ [])) (y ∷ xs) (λ ys. empty ys ≡ false) (λ _. refl)
+    (λ _. refl)
 
 pub map_empty : {X Y : Type 0} (f : X → Y) (xs : List X) → empty (map f xs) ≡ empty xs
 map_empty f [] = refl

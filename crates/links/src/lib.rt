@@ -3,8 +3,9 @@
 
 ghost use Rattle.bank.specs.Bank.{AllIdle};
 ghost use Rattle.bank.specs.States.{both};
-ghost use Rattle.links.specs.Links.{link_state, one_link_state, ring_link_state, three_links_state, three_state};
-ghost use Rattle.links.specs.Links.{lossy_one_link, lossy_rings, lossy_three_links, lossy_wires, one_link, three_links};
+ghost use Rattle.links.specs.Links.{link_state, one_link, one_link_state, ring_link_state};
+ghost use Rattle.links.specs.Links.{lossy_one_link, lossy_rings, lossy_three_links, lossy_wires};
+ghost use Rattle.links.specs.Links.{three_links, three_links_state, three_state};
 ghost use Rattle.links.specs.Losses.{losses_state, script_at};
 ghost use Rattle.loss.specs.States.{script_state};
 ghost use Rattle.std.specs.Prelude.{◌≡◌, [], ◌∷◌};
