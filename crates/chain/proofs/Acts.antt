@@ -1,9 +1,8 @@
 -- Acts one after another.
-use Rattle.std.proofs.Common.{◌≡◌, ℕ, zero, suc, ◌+◌, ◌*◌, List, [], ◌∷◌, ◌++◌, sym, refl, ap, ◌∙◌, subst, add-one}
+use Rattle.std.proofs.Common.{◌≡◌, ℕ, ◌+◌, ◌*◌, List, [], ◌∷◌, ◌++◌, sym, refl, ap, ◌∙◌, subst, add-one}
 use Rattle.eventlog.specs.Sheet.{Sheet, appended, logged}
 use Rattle.eventlog.specs.Format.{encode}
 use Rattle.eventlog.specs.declared.event.Event.{Event}
-use Rattle.eventlog.specs.declared.event.Event.TheVariants.{Tick}
 use Rattle.port.specs.Port.{Turn, and_then, no_act}
 use Rattle.bank.specs.Bank.{BankCalls}
 use Rattle.model.specs.Chain.{Chain, each_port, sends, stepped, takes, ticked}

@@ -1,11 +1,11 @@
 -- Calls that are refused, and calls that write their records.
-use Rattle.std.proofs.Common.{◌≡◌, ℕ, ◌+◌, ◌-◌, ◌≤◌, ◌&&◌, List, [], ◌∷◌, length, Some, None, Ok, Err, Option, Result}
-use Rattle.std.proofs.Common.{sym, refl, ap, ◌∙◌, subst, append-nil, add-zero, add-one, arith}
+use Rattle.std.proofs.Common.{◌≡◌, ℕ, ◌+◌, ◌-◌, ◌≤◌, ◌&&◌, List, [], length, Some, None, Ok, Err, Option, Result}
+use Rattle.std.proofs.Common.{sym, refl, ap, ◌∙◌, subst, add-zero, add-one, arith}
 use Rattle.std.proofs.lemmas.List.{take-append-drop}
 use Rattle.std.proofs.lemmas.Bool.{le-leb}
 use Rattle.symbol.specs.declared.Frame.{Frame}
 use Rattle.eventlog.specs.declared.event.Event.{Event}
-use Rattle.eventlog.specs.Format.{encode, encode_all}
+use Rattle.eventlog.specs.Format.{encode_all}
 use Rattle.eventlog.specs.Sheet.{Sheet, splice, written, logged}
 use Rattle.eventlog.proofs.Sheets.{logged_whole}
 use Rattle.port.specs.Port.{Turn}

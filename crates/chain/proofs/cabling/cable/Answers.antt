@@ -1,5 +1,4 @@
 use Rattle.std.proofs.Common.{rules}
-use Rattle.model.specs.Chain.{cabled}
 use Rattle.model.proofs.Laws.{every_run}
 use Rattle.chain.proofs.cabling.cable.Goals as goal
 
