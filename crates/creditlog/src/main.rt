@@ -5,6 +5,7 @@ use anyhow::bail;
 use listing::part::list_part;
 use reader::reader::Reader;
 use std::io::{Read, Write};
+use std::process::ExitCode;
 use std::{env, fs};
 use summary::text::write_summary;
 use summary::totals::Totals;
@@ -78,10 +79,13 @@ fn run(rt: &HostRuntime) -> anyhow::Result<()> {
     }
 }
 
-fn main(rt: HostRuntime) -> anyhow::Result<()> {
-    let done = run(&rt);
-    if let Err(error) = &done {
-        eprintln!(rt; "creditlog: {error}")?;
+// A failure is one line on standard error, and status 1.
+fn main(rt: HostRuntime) -> ExitCode {
+    match run(&rt) {
+        Ok(()) => ExitCode::SUCCESS,
+        Err(error) => {
+            let _ = eprintln!(rt; "creditlog: {error}");
+            ExitCode::FAILURE
+        }
     }
-    done
 }
