@@ -30,12 +30,12 @@ fn check_turned(rt: &impl Abort, event: Event, byte: usize, bit: u8) -> Result<(
         Ok(Some(placed)) => {
             assert_ne!(rt; placed.event, event);
             Ok(())
-        },
+        }
         Ok(None) => Err(Fail::new("a turned record is not there")),
         Err(bad) => {
             assert_eq!(rt; bad.place, 0);
             Ok(())
-        },
+        }
     }
 }
 

@@ -7,7 +7,7 @@ use std::test::*;
 use symbol::{Frame, Symbol};
 
 #[test]
-fn four_records(rt: HostRuntime) -> Result<(), Fail> {
+fn four_records(rt: HostRuntime) {
     let mut sheet = [0xAAu8; 22];
     assert_eq!(rt; write_events(&mut sheet, 1, &fourth_tick()), 21);
     assert_eq!(rt;
@@ -17,11 +17,10 @@ fn four_records(rt: HostRuntime) -> Result<(), Fail> {
             0xAA,
         ]
     );
-    Ok(())
 }
 
 #[test]
-fn exact_and_short_room(rt: HostRuntime) -> Result<(), Fail> {
+fn exact_and_short_room(rt: HostRuntime) {
     let put = Event::Item(ItemKind::Put, 3, Symbol::Frame(Frame { number: 258 }));
     let mut exact = [0xAAu8; 9];
     assert_eq!(rt; write_event(&mut exact, 1, put), 9);
@@ -33,16 +32,14 @@ fn exact_and_short_room(rt: HostRuntime) -> Result<(), Fail> {
     assert_eq!(rt; write_event(&mut short, 9, put), 9);
     assert_eq!(rt; write_event(&mut short, usize::MAX, put), usize::MAX);
     assert_eq!(rt; short, [0xAA; 8]);
-    Ok(())
 }
 
 // A record that does not fit is left out whole, and a shorter one behind it is written.
 #[test]
-fn one_left_out(rt: HostRuntime) -> Result<(), Fail> {
+fn one_left_out(rt: HostRuntime) {
     let put = Event::Item(ItemKind::Put, 3, Symbol::Frame(Frame { number: 1 }));
     let rrdy = Event::Item(ItemKind::Got, 2, Symbol::RRdy);
     let mut sheet = [0xAAu8; 6];
     assert_eq!(rt; write_events(&mut sheet, 1, &[put, rrdy]), 5);
     assert_eq!(rt; sheet, [0xAA, 0xE0, 3, 2, b'r', 0xAA]);
-    Ok(())
 }
