@@ -10,7 +10,7 @@ use Rattle.eventlog.specs.Sheet.{Sheet, splice, written, logged}
 use Rattle.eventlog.proofs.Sheets.{logged_whole}
 use Rattle.port.specs.Port.{Turn}
 use Rattle.bank.specs.Bank.{BankCalls}
-use Rattle.model.specs.declared.End.{End}
+use Rattle.symbol.specs.declared.end.End.{End}
 use Rattle.model.specs.declared.Refusal.{Refusal}
 use Rattle.channel.specs.Calls.{idle}
 use Rattle.model.specs.Chain.{Chain, all_idle, collects_by, unless_refused}

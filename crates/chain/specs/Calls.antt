@@ -7,7 +7,7 @@ use Rattle.port.specs.Figures.{figures_of}
 use Rattle.port.specs.Port.{Turn}
 use Rattle.port.specs.declared.figures.Figures.{Figures}
 use Rattle.bank.specs.Bank.{BankCalls}
-use Rattle.model.specs.declared.End.{End}
+use Rattle.symbol.specs.declared.end.End.{End}
 use Rattle.model.specs.declared.Refusal.{Refusal}
 use Rattle.model.specs.Chain.{Chain, answer, call_bytes, collectable, collects, inject_refusal, injects}
 use Rattle.model.specs.Chain.{port_of, release_refusal, releases, step_refusal, stepped, steps}

@@ -9,7 +9,7 @@ use Rattle.eventlog.specs.declared.event.FrameKind.TheVariants.{Freed, Injected,
 use Rattle.bank.specs.Bank.{BankCalls, LawfulBank}
 use Rattle.port.specs.Port.{next_frame, freed_of, Port, Buffers, Turn, and_then, with_buffers, lent_out, injected_at}
 use Rattle.port.specs.Port.{among}
-use Rattle.model.specs.declared.End.{End}
+use Rattle.symbol.specs.declared.end.End.{End}
 use Rattle.model.specs.Chain.{injected, Chain, facing, port_of, with_port, end_port, takes, sends, each_port, ticked}
 use Rattle.model.specs.Chain.{stepped, collects_by, released_at, on}
 use Rattle.model.specs.Run.{Log}

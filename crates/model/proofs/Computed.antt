@@ -3,7 +3,7 @@ use Rattle.std.proofs.Common.{ℕ, zero, suc, refl}
 use Rattle.bank.specs.Bank.{BankCalls}
 use Rattle.links.specs.Links.{one_link, three_links}
 use Rattle.port.specs.Port.{Turn}
-use Rattle.model.specs.declared.End.TheVariants.{West}
+use Rattle.symbol.specs.declared.end.End.TheVariants.{West}
 use Rattle.model.specs.Chain.{Chain}
 use Rattle.model.specs.Run.{Run, is_running, runs, new, login, start, inject, step}
 use Rattle.model.specs.Worked.{room, injecting, stepping, one_lost, some_lost, over_three, LossTable, SixSteps}

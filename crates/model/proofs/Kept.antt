@@ -22,7 +22,7 @@ use Rattle.bank.specs.Bank.{BankCalls, LawfulBank}
 use Rattle.port.specs.Port.{Port, Outbox, Turn, new_port, with_buffers, emptied, unsent, frame_of, sent_on, received}
 use Rattle.port.specs.Port.{has_sent, after_send, frame_held, credit_back, frames_found, rrdys_found}
 use Rattle.port.specs.Port.{frames_corrected, rrdys_corrected}
-use Rattle.model.specs.declared.End.{End}
+use Rattle.symbol.specs.declared.end.End.{End}
 use Rattle.model.specs.Chain.{Chain, facing, behind, port_of, with_ports, with_port, with_bank, end_port, takes_item}
 use Rattle.model.specs.Chain.{takes, is_end, source, sends_symbol, sends, symbols, on, sound}
 use Rattle.model.specs.Run.{Log}

@@ -10,7 +10,7 @@ use Rattle.eventlog.specs.declared.event.ItemKind.TheVariants.{Got}
 use Rattle.reader.specs.Reading.{WellFormed}
 use Rattle.bank.specs.Bank.{BankCalls, LawfulBank}
 use Rattle.port.specs.Port.{Turn, no_act}
-use Rattle.model.specs.declared.End.{End}
+use Rattle.symbol.specs.declared.end.End.{End}
 use Rattle.model.specs.Chain.{Chain, facing, port_of, end_port, port_at_end, opposite, on, logins, injects, steps}
 use Rattle.model.specs.Chain.{collects, releases}
 use Rattle.model.specs.Run.{Log, Phase, Moving, Run, is_cabled, is_running, is_draining, login, start, inject, step}

@@ -8,8 +8,8 @@ use Rattle.eventlog.specs.declared.event.FrameKind.{FrameKind}
 use Rattle.eventlog.specs.declared.event.FrameKind.TheVariants.{Freed, Injected, Collected}
 use Rattle.bank.specs.Bank.{BankCalls, LawfulBank}
 use Rattle.port.specs.Port.{next_frame, Port, Turn, no_act, handed_out, released, injected_at, logged_in, new_port}
-use Rattle.model.specs.declared.End.{End}
-use Rattle.model.specs.declared.End.TheVariants.{West, East}
+use Rattle.symbol.specs.declared.end.End.{End}
+use Rattle.symbol.specs.declared.end.End.TheVariants.{West, East}
 use Rattle.model.specs.declared.Refusal.{Refusal}
 use Rattle.model.specs.declared.Refusal.TheVariants as refusal
 use Rattle.model.specs.Chain.{injected, call_bytes, Chain, port_of, with_port, end_port, stepped, from_oldest}

@@ -14,7 +14,7 @@ use Rattle.eventlog.specs.declared.event.FrameKind.TheVariants.{Freed}
 use Rattle.bank.specs.Bank.{BankCalls, LawfulBank, count}
 use Rattle.port.specs.Port.{freed_of, Port, Turn, no_act, among, handed_out, released, injected_at, logged_in}
 use Rattle.port.specs.Port.{new_port}
-use Rattle.model.specs.declared.End.{End}
+use Rattle.symbol.specs.declared.end.End.{End}
 use Rattle.model.specs.declared.Refusal.{Refusal}
 use Rattle.model.specs.declared.Refusal.TheVariants as refusal
 use Rattle.model.specs.Chain.{injected, call_bytes, last_tick, Chain, facing, port_of, with_port, end_port, all_idle}

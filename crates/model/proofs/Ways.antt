@@ -9,8 +9,8 @@ use Rattle.eventlog.specs.declared.event.Event.{Event}
 use Rattle.eventlog.specs.declared.event.Event.TheVariants as event
 use Rattle.eventlog.specs.declared.event.ItemKind.TheVariants.{Put, Got, Lost as Missed}
 use Rattle.bank.specs.Bank.{BankCalls}
-use Rattle.model.specs.declared.End.{End}
-use Rattle.model.specs.declared.End.TheVariants.{West, East}
+use Rattle.symbol.specs.declared.end.End.{End}
+use Rattle.symbol.specs.declared.end.End.TheVariants.{West, East}
 use Rattle.model.specs.Chain.{Chain, behind, port_of, end_port, on, opposite}
 use Rattle.model.specs.Run.{Log}
 use Rattle.model.specs.Figures.{lost_frames, injected, collected, records, frames_among}

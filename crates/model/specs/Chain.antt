@@ -16,8 +16,8 @@ use Rattle.channel.specs.Calls.{handed, idle}
 use Rattle.bank.specs.Bank.{BankCalls, count}
 use Rattle.port.specs.Port.{Port, Turn, no_act, and_then, new_port, logged_in, received, correction, receive_events}
 use Rattle.port.specs.Port.{choice, after_send, sent_on, unsent, next_frame, injected_at, handed_out, among, released}
-use Rattle.model.specs.declared.End.{End}
-use Rattle.model.specs.declared.End.TheVariants.{West, East}
+use Rattle.symbol.specs.declared.end.End.{End}
+use Rattle.symbol.specs.declared.end.End.TheVariants.{West, East}
 use Rattle.model.specs.declared.Refusal.{Refusal}
 use Rattle.model.specs.declared.Refusal.TheVariants as refusal
 

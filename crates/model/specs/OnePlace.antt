@@ -2,8 +2,8 @@
 use Rattle.std.specs.Prelude.{◌≡◌, ℕ, ◌+◌, ◌-◌, ◌*◌, ◌<◌, ◌≤◌, cond, ◌⊎◌, List, [], ◌∷◌, ◌++◌, length, ◌==◌}
 use Rattle.symbol.specs.declared.Frame.{Frame}
 use Rattle.bank.specs.Bank.{BankCalls}
-use Rattle.model.specs.declared.End.{End}
-use Rattle.model.specs.declared.End.TheVariants.{West, East}
+use Rattle.symbol.specs.declared.end.End.{End}
+use Rattle.symbol.specs.declared.end.End.TheVariants.{West, East}
 use Rattle.model.specs.Chain.{Chain, facing, port_of, last_port, end_port, port_at_end, opposite, on}
 use Rattle.model.specs.Run.{Log}
 use Rattle.model.specs.Figures.{frames_among, lost_frames, injected, collected}

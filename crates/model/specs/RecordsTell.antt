@@ -3,7 +3,7 @@ use Rattle.std.specs.Prelude.{◌≡◌, ℕ, ◌+◌, ◌*◌, ◌^◌, ◌<◌
 use Rattle.std.specs.List.{AllByRecursion}
 use Rattle.reader.specs.Reading.{WellFormed}
 use Rattle.port.specs.Port.{Port}
-use Rattle.model.specs.declared.End.{End}
+use Rattle.symbol.specs.declared.end.End.{End}
 use Rattle.model.specs.Chain.{Chain, port_of, end_port, port_at_end, opposite, last_tick, outbox_places}
 use Rattle.model.specs.Run.{Log}
 use Rattle.model.specs.Figures.{Frames, RRdys, reported_lost, made_good, injected, collected, held, owed}

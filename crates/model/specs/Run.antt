@@ -2,7 +2,7 @@
 use Rattle.std.specs.Prelude.{ℕ, List, [], ◌++◌}
 use Rattle.eventlog.specs.declared.event.Event.{Event}
 use Rattle.bank.specs.Bank.{BankCalls}
-use Rattle.model.specs.declared.End.{End}
+use Rattle.symbol.specs.declared.end.End.{End}
 use Rattle.model.specs.Chain.{Chain, cabled, logins, injects, steps, collects, releases}
 
 abbrev pub Log : Type 0

@@ -4,7 +4,7 @@ use Rattle.symbol.specs.declared.Frame.{Frame}
 use Rattle.eventlog.specs.Format.{encode_all}
 use Rattle.bank.specs.Bank.{BankCalls}
 use Rattle.port.specs.Port.{Turn}
-use Rattle.model.specs.declared.End.{End}
+use Rattle.symbol.specs.declared.end.End.{End}
 use Rattle.model.specs.Chain.{Chain, stepped, injected, collects_by, released_at, step_bytes, call_bytes}
 
 abbrev pub bytes_of : {S : Type 0} → Turn S → ℕ

@@ -8,8 +8,8 @@ use Rattle.bank.specs.Bank.{BankCalls}
 use Rattle.loss.specs.declared.script.LossEntry.{LossEntry}
 use Rattle.links.specs.Links.{WireStates, RingStates, one_link, three_links, lossy_wires, lossy_three_links}
 use Rattle.port.specs.Port.{Port, Turn, no_act, and_then, lost_of}
-use Rattle.model.specs.declared.End.{End}
-use Rattle.model.specs.declared.End.TheVariants.{West, East}
+use Rattle.symbol.specs.declared.end.End.{End}
+use Rattle.symbol.specs.declared.end.End.TheVariants.{West, East}
 use Rattle.model.specs.Chain.{Chain, cabled, logins, injects, steps, port_of, port_at_end, opposite}
 use Rattle.model.specs.Run.{Log, Run, is_running}
 use Rattle.model.specs.Figures.{Frames, missing}

@@ -6,13 +6,6 @@ ghost use Rattle.std.specs.Prelude.{◌≡◌};
 
 pub mod promises;
 
-// The two ends of a chain.
-#[derive(Clone, Copy, PartialEq, Eq, Debug)]
-pub enum End {
-    West,
-    East,
-}
-
 // Why a call of a chain is refused.
 #[derive(Clone, Copy, PartialEq, Eq, Debug)]
 pub enum Refusal {
@@ -33,11 +26,11 @@ pub enum Refusal {
     SheetFull = 9,
 }
 
-impl Refusal {
-    // The number that stands for the refusal outside.
-    pub fn number(self) -> u8
-        ensures { result ≡ refusal_number self }
-    {
-        self as u8
+// The number that stands for the refusal outside.
+impl From<Refusal> for u8 {
+    ghost from_gives = { λ refusal number. number ≡ refusal_number refusal };
+
+    fn from(refusal: Refusal) -> u8 {
+        refusal as u8
     }
 }
