@@ -1,17 +1,6 @@
 // The calls on the buffers.
-ghost use Rattle.std.specs.Prelude.{◌≡◌, ℕ, ◌<◌, ◌≤◌, false, ◌==◌};
-ghost use Rattle.port.specs.Port.{
-  among,
-  answered,
-  emptied,
-  filled,
-  free,
-  is_full,
-  lent_out,
-  owing,
-  passed_on,
-  returned,
-};
+ghost use Rattle.std.specs.Prelude.{◌≡◌, ℕ, ◌<◌, ◌≤◌, false, ◌==◌, if◌then◌else◌, min, nat_lt, not};
+ghost use Rattle.port.specs.Port.{among, answered, emptied, filled, free, is_full, lent_out, owing, passed_on, returned};
 ghost use Rattle.port.specs.Port.{without};
 ghost use Rattle.port.specs.View.{buffers_of};
 ghost use Rattle.ring.specs.Contents.{contents};
@@ -56,13 +45,13 @@ fn remove(numbers: &mut Ring<u32, 32>, number: u32)
 }
 
 impl Buffers {
-    pub(crate) fn is_full(&self) -> bool
+    fn is_full(&self) -> bool
         ensures { result ≡ is_full (buffers_of self.now) }
     {
         self.held + self.owed == self.all
     }
 
-    pub(crate) fn free(&self) -> u8
+    fn free(&self) -> u8
         ensures { result ≡ free (buffers_of self.now) }
     {
         self.all - (self.held + self.owed)
@@ -74,29 +63,40 @@ impl Buffers {
         self.waiting.first()
     }
 
-    // A frame takes a free buffer.
-    pub(crate) fn fill(&mut self, frame: Frame)
-        requires { is_full (buffers_of self.old) ≡ false }
-        ensures { buffers_of self.new ≡ filled (buffers_of self.old) frame }
+    // A frame takes a free buffer, if there is one.
+    pub(crate) fn fill(&mut self, frame: Frame) -> bool
+        ensures state { let b = buffers_of self.old in
+            buffers_of self.new ≡ (if is_full b then b else filled b frame) }
+        ensures answer { result ≡ not (is_full (buffers_of self.old)) }
     {
+        if self.is_full() {
+            return false;
+        }
         let _ = self.waiting.push(frame);
         self.held += 1;
+        true
     }
 
-    // More R_RDYs are owed.
-    pub(crate) fn owe(&mut self, count: u8)
-        requires { count ≤ free (buffers_of self.old) }
-        ensures { buffers_of self.new ≡ owing (buffers_of self.old) count }
+    // More R_RDYs are owed, as far as there are free buffers; the answer is how many.
+    pub(crate) fn owe(&mut self, count: u16) -> u8
+        ensures state { let b = buffers_of self.old in buffers_of self.new ≡ owing b (min count (free b)) }
+        ensures answer { result ≡ min count (free (buffers_of self.old)) }
     {
-        self.owed += count;
+        let more = count.min(self.free() as u16) as u8;
+        self.owed += more;
+        more
     }
 
-    // An owed R_RDY has been sent.
-    pub(crate) fn answer(&mut self)
-        requires { 0 < self.old.owed }
-        ensures { buffers_of self.new ≡ answered (buffers_of self.old) }
+    // An owed R_RDY is sent, if there is one.
+    pub(crate) fn answer(&mut self) -> bool
+        ensures state { buffers_of self.new ≡ answered (buffers_of self.old) }
+        ensures answer { result ≡ nat_lt 0 self.old.owed }
     {
+        if self.owed == 0 {
+            return false;
+        }
         self.owed -= 1;
+        true
     }
 
     // The oldest frame has gone on: its buffer is free, and an R_RDY owed.
@@ -116,9 +116,7 @@ impl Buffers {
             lent_out (buffers_of self.old) (buffers_of self.old).waiting }
         ensures answer { result ≡ head? (buffers_of self.old).waiting }
     {
-        let Some(frame) = self.waiting.pop() else {
-            return None;
-        };
+        let frame = self.waiting.pop()?;
         let _ = self.out.push(frame.number);
         self.handed = self.handed.saturating_add(1);
         Some(frame)
