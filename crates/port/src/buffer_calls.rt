@@ -1,48 +1,11 @@
 // The calls on the buffers.
-ghost use Rattle.std.specs.Prelude.{◌≡◌, ℕ, ◌<◌, ◌≤◌, false, ◌==◌, if◌then◌else◌, min, nat_lt, not};
-ghost use Rattle.port.specs.Port.{among, answered, emptied, filled, free, is_full, lent_out, owing, passed_on, returned};
-ghost use Rattle.port.specs.Port.{without};
+ghost use Rattle.std.specs.Prelude.{◌≡◌, if◌then◌else◌, min, nat_lt, not};
+ghost use Rattle.port.specs.Port.{among, answered, emptied, filled, free, is_full, lent_out, owing, returned};
 ghost use Rattle.port.specs.View.{buffers_of};
-ghost use Rattle.ring.specs.Contents.{contents};
 ghost use Rattle.ring.specs.Queue.{head?};
 
 use super::Buffers;
-use ring::Ring;
-use ring::each::Test;
 use symbol::Frame;
-
-// Asks of a number whether it is this one.
-#[derive(Clone, Copy)]
-struct Is(u32);
-
-impl Test<u32> for Is {
-    ghost passes = { λ t x. (x == t.0) };
-
-    fn passes(&self, number: u32) -> bool {
-        number == self.0
-    }
-}
-
-// Takes the oldest number out, and puts it last unless it is this one.
-fn pass_on(numbers: &mut Ring<u32, 32>, number: u32)
-    ensures { contents numbers.new ≡ passed_on number (contents numbers.old) }
-{
-    match numbers.pop() {
-        Some(oldest) if oldest != number => {
-            let _ = numbers.push(oldest);
-        }
-        _ => {}
-    }
-}
-
-// Takes a number out wherever it stands; the others keep their order.
-fn remove(numbers: &mut Ring<u32, 32>, number: u32)
-    ensures { contents numbers.new ≡ without number (contents numbers.old) }
-{
-    for _turn in 0..numbers.len() {
-        pass_on(numbers, number);
-    }
-}
 
 impl Buffers {
     fn is_full(&self) -> bool
@@ -125,7 +88,7 @@ impl Buffers {
     pub(crate) fn is_out(&self, number: u32) -> bool
         ensures { result ≡ among number (buffers_of self.now).out }
     {
-        self.out.any(&Is(number))
+        self.out.any(|n| n == number)
     }
 
     // The buffer of a frame that was handed out is free again.
@@ -133,7 +96,7 @@ impl Buffers {
         ensures { buffers_of self.new ≡ returned (buffers_of self.old) number }
     {
         if self.is_out(number) {
-            remove(&mut self.out, number);
+            self.out.retain(|n| n != number);
             self.held -= 1;
             self.owed += 1;
         }
