@@ -67,7 +67,7 @@ impl Buffers {
         ensures { buffers_of self.new ≡
             emptied (buffers_of self.old) (buffers_of self.old).waiting }
     {
-        if let Some(_) = self.waiting.pop() {
+        if self.waiting.pop().is_some() {
             self.held -= 1;
             self.owed += 1;
         }

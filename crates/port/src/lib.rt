@@ -16,6 +16,8 @@ pub mod taking;
 use ring::Ring;
 use symbol::Frame;
 
+// Contracts read these by specs/View.antt: a Copy type's Model must give its fields back, and a ring hides its places.
+
 // The credit towards the other end of the link: what is in use never passes the limit.
 #[derive(Clone, Copy)]
 pub(crate) struct Credit {

@@ -27,12 +27,11 @@ impl Outbox {
         ensures answer { let o = outbox_of self.old in
             result ≡ (if box_full o then None else Some (box_frame o)) }
     {
-        if self.is_full() {
-            return None;
-        }
         let number = self.injected.saturating_add(1);
         let frame = Frame { number };
-        let _ = self.frames.push(frame);
+        if !self.frames.push(frame) {
+            return None;
+        }
         self.injected = number;
         Some(frame)
     }
