@@ -143,11 +143,6 @@ abbrev pub without : ℕ → List ℕ → List ℕ
 without k [] = []
 without k (x ∷ xs) = cond (x == k) (without k xs) (x ∷ without k xs)
 
--- the first number goes last, unless it is k
-abbrev pub passed_on : ℕ → List ℕ → List ℕ
-passed_on k [] = []
-passed_on k (x ∷ xs) = cond (x == k) xs (xs ++ (x ∷ []))
-
 -- the buffer of frame k is free, and its number no longer handed out
 abbrev pub freed_of : Buffers → ℕ → Buffers
 freed_of b k = record {

@@ -32,7 +32,7 @@ outbox_of o = record { frames = contents o.frames; injected = o.injected }
 
 abbrev pub view : PortIs → Port
 view p = record {
-  n = p.n;
+  n = p.modulus.n;
   credit = credit_of p.credit;
   buffers = buffers_of p.buffers;
   frames_out = outflow_of p.frames_out;

@@ -1,68 +1,20 @@
 // The calls on the buffers.
-ghost use Rattle.std.specs.Prelude.{◌≡◌, ℕ, ◌<◌, ◌≤◌, false, ◌==◌};
-ghost use Rattle.port.specs.Port.{
-  among,
-  answered,
-  emptied,
-  filled,
-  free,
-  is_full,
-  lent_out,
-  owing,
-  passed_on,
-  returned,
-};
-ghost use Rattle.port.specs.Port.{without};
+ghost use Rattle.std.specs.Prelude.{◌≡◌, if◌then◌else◌, min, nat_lt, not};
+ghost use Rattle.port.specs.Port.{among, answered, emptied, filled, free, is_full, lent_out, owing, returned};
 ghost use Rattle.port.specs.View.{buffers_of};
-ghost use Rattle.ring.specs.Contents.{contents};
 ghost use Rattle.ring.specs.Queue.{head?};
 
 use super::Buffers;
-use ring::Ring;
-use ring::each::Test;
 use symbol::Frame;
 
-// Asks of a number whether it is this one.
-#[derive(Clone, Copy)]
-struct Is(u32);
-
-impl Test<u32> for Is {
-    ghost passes = { λ t x. (x == t.0) };
-
-    fn passes(&self, number: u32) -> bool {
-        number == self.0
-    }
-}
-
-// Takes the oldest number out, and puts it last unless it is this one.
-fn pass_on(numbers: &mut Ring<u32, 32>, number: u32)
-    ensures { contents numbers.new ≡ passed_on number (contents numbers.old) }
-{
-    match numbers.pop() {
-        Some(oldest) if oldest != number => {
-            let _ = numbers.push(oldest);
-        }
-        _ => {}
-    }
-}
-
-// Takes a number out wherever it stands; the others keep their order.
-fn remove(numbers: &mut Ring<u32, 32>, number: u32)
-    ensures { contents numbers.new ≡ without number (contents numbers.old) }
-{
-    for _turn in 0..numbers.len() {
-        pass_on(numbers, number);
-    }
-}
-
 impl Buffers {
-    pub(crate) fn is_full(&self) -> bool
+    fn is_full(&self) -> bool
         ensures { result ≡ is_full (buffers_of self.now) }
     {
         self.held + self.owed == self.all
     }
 
-    pub(crate) fn free(&self) -> u8
+    fn free(&self) -> u8
         ensures { result ≡ free (buffers_of self.now) }
     {
         self.all - (self.held + self.owed)
@@ -74,29 +26,40 @@ impl Buffers {
         self.waiting.first()
     }
 
-    // A frame takes a free buffer.
-    pub(crate) fn fill(&mut self, frame: Frame)
-        requires { is_full (buffers_of self.old) ≡ false }
-        ensures { buffers_of self.new ≡ filled (buffers_of self.old) frame }
+    // A frame takes a free buffer, if there is one.
+    pub(crate) fn fill(&mut self, frame: Frame) -> bool
+        ensures state { let b = buffers_of self.old in
+            buffers_of self.new ≡ (if is_full b then b else filled b frame) }
+        ensures answer { result ≡ not (is_full (buffers_of self.old)) }
     {
+        if self.is_full() {
+            return false;
+        }
         let _ = self.waiting.push(frame);
         self.held += 1;
+        true
     }
 
-    // More R_RDYs are owed.
-    pub(crate) fn owe(&mut self, count: u8)
-        requires { count ≤ free (buffers_of self.old) }
-        ensures { buffers_of self.new ≡ owing (buffers_of self.old) count }
+    // More R_RDYs are owed, as far as there are free buffers; the answer is how many.
+    pub(crate) fn owe(&mut self, count: u16) -> u8
+        ensures state { let b = buffers_of self.old in buffers_of self.new ≡ owing b (min count (free b)) }
+        ensures answer { result ≡ min count (free (buffers_of self.old)) }
     {
-        self.owed += count;
+        let more = count.min(self.free() as u16) as u8;
+        self.owed += more;
+        more
     }
 
-    // An owed R_RDY has been sent.
-    pub(crate) fn answer(&mut self)
-        requires { 0 < self.old.owed }
-        ensures { buffers_of self.new ≡ answered (buffers_of self.old) }
+    // An owed R_RDY is sent, if there is one.
+    pub(crate) fn answer(&mut self) -> bool
+        ensures state { buffers_of self.new ≡ answered (buffers_of self.old) }
+        ensures answer { result ≡ nat_lt 0 self.old.owed }
     {
+        if self.owed == 0 {
+            return false;
+        }
         self.owed -= 1;
+        true
     }
 
     // The oldest frame has gone on: its buffer is free, and an R_RDY owed.
@@ -104,7 +67,7 @@ impl Buffers {
         ensures { buffers_of self.new ≡
             emptied (buffers_of self.old) (buffers_of self.old).waiting }
     {
-        if let Some(_) = self.waiting.pop() {
+        if self.waiting.pop().is_some() {
             self.held -= 1;
             self.owed += 1;
         }
@@ -116,9 +79,7 @@ impl Buffers {
             lent_out (buffers_of self.old) (buffers_of self.old).waiting }
         ensures answer { result ≡ head? (buffers_of self.old).waiting }
     {
-        let Some(frame) = self.waiting.pop() else {
-            return None;
-        };
+        let frame = self.waiting.pop()?;
         let _ = self.out.push(frame.number);
         self.handed = self.handed.saturating_add(1);
         Some(frame)
@@ -127,7 +88,7 @@ impl Buffers {
     pub(crate) fn is_out(&self, number: u32) -> bool
         ensures { result ≡ among number (buffers_of self.now).out }
     {
-        self.out.any(&Is(number))
+        self.out.any(|n| n == number)
     }
 
     // The buffer of a frame that was handed out is free again.
@@ -135,7 +96,7 @@ impl Buffers {
         ensures { buffers_of self.new ≡ returned (buffers_of self.old) number }
     {
         if self.is_out(number) {
-            remove(&mut self.out, number);
+            self.out.retain(|n| n != number);
             self.held -= 1;
             self.owed += 1;
         }

@@ -5,23 +5,12 @@ ghost use Rattle.port.specs.View.{view};
 ghost use Rattle.ring.specs.Queue.{head?};
 ghost use Rattle.std.specs.Prelude.{◌≡◌};
 
-use super::{Buffers, Credit, Inflow, Outbox, Outflow, Port};
+use super::{Buffers, Credit, Inflow, Modulus, Outbox, Outflow, Port};
 use ring::Ring;
 use symbol::Frame;
 
 // What stands at a place that no frame uses.
 const BLANK: Frame = Frame { number: 0 };
-
-const NOTHING_SENT: Outflow = Outflow {
-    sent: 0,
-    due: false,
-};
-
-const NOTHING_GOT: Inflow = Inflow {
-    got: 0,
-    lost: 0,
-    good: 0,
-};
 
 impl Port {
     // A port that has logged in: its own buffers, those of the other end, and N. Numbers that no port has go to the
@@ -30,23 +19,23 @@ impl Port {
         ensures { view result ≡ logged_in (some_buffers own) (some_buffers other) (some_n n) }
     {
         Port {
-            n: n.min(15),
+            modulus: Modulus { n: n.min(15) },
             credit: Credit {
-                limit: other.min(32).max(1),
+                limit: other.clamp(1, 32),
                 used: 0,
             },
             buffers: Buffers {
-                all: own.min(32).max(1),
+                all: own.clamp(1, 32),
                 held: 0,
                 owed: 0,
                 waiting: Ring::new(BLANK),
                 out: Ring::new(0),
                 handed: 0,
             },
-            frames_out: NOTHING_SENT,
-            rrdys_out: NOTHING_SENT,
-            frames_in: NOTHING_GOT,
-            rrdys_in: NOTHING_GOT,
+            frames_out: Outflow::default(),
+            rrdys_out: Outflow::default(),
+            frames_in: Inflow::default(),
+            rrdys_in: Inflow::default(),
             outbox: Outbox {
                 frames: Ring::new(BLANK),
                 injected: 0,
@@ -65,11 +54,7 @@ impl Port {
         ensures state { view self.new ≡ injects_at (view self.old) }
         ensures answer { result ≡ injected_frame (view self.old) }
     {
-        if self.outbox.is_full() {
-            return None;
-        }
-        let number = self.outbox.inject();
-        Some(Frame { number })
+        self.outbox.inject()
     }
 
     // The oldest frame that waits in a buffer is handed out.

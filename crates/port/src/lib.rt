@@ -16,6 +16,8 @@ pub mod taking;
 use ring::Ring;
 use symbol::Frame;
 
+// Contracts read these by specs/View.antt: a Copy type's Model must give its fields back, and a ring hides its places.
+
 // The credit towards the other end of the link: what is in use never passes the limit.
 #[derive(Clone, Copy)]
 pub(crate) struct Credit {
@@ -42,15 +44,22 @@ pub(crate) struct Buffers {
     ghost kept: { length (contents waiting) + length (contents out) ≤ held },
 }
 
-// A counted stream as its sender keeps it: the count since the last mark, and whether a mark is due.
+// The modulus 2^N of every count of a stream; an N of 0 counts nothing, and makes no mark due.
 #[derive(Clone, Copy)]
+pub(crate) struct Modulus {
+    n: u8,
+    ghost small: { n ≤ 15 },
+}
+
+// A counted stream as its sender keeps it: the count since the last mark, and whether a mark is due.
+#[derive(Clone, Copy, Default)]
 pub(crate) struct Outflow {
     sent: u16,
     due: bool,
 }
 
 // A counted stream as its receiver keeps it: the count since the last mark, and the totals that a page shows.
-#[derive(Clone, Copy)]
+#[derive(Clone, Copy, Default)]
 pub(crate) struct Inflow {
     got: u16,
     lost: u32,
@@ -66,7 +75,7 @@ pub(crate) struct Outbox {
 
 #[derive(Clone, Copy)]
 pub struct Port {
-    n: u8,
+    modulus: Modulus,
     credit: Credit,
     buffers: Buffers,
     frames_out: Outflow,
@@ -74,9 +83,8 @@ pub struct Port {
     frames_in: Inflow,
     rrdys_in: Inflow,
     outbox: Outbox,
-    ghost small: { n ≤ 15 },
-    ghost frames_sent: { frames_out.sent < 2 ^ n },
-    ghost rrdys_sent: { rrdys_out.sent < 2 ^ n },
-    ghost frames_got: { frames_in.got < 2 ^ n },
-    ghost rrdys_got: { rrdys_in.got < 2 ^ n },
+    ghost frames_sent: { frames_out.sent < 2 ^ modulus.n },
+    ghost rrdys_sent: { rrdys_out.sent < 2 ^ modulus.n },
+    ghost frames_got: { frames_in.got < 2 ^ modulus.n },
+    ghost rrdys_got: { rrdys_in.got < 2 ^ modulus.n },
 }

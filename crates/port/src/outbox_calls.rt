@@ -1,8 +1,8 @@
 // The calls on the outbox.
-ghost use Rattle.port.specs.Port.{box_full, box_injected, box_number, box_unsent};
+ghost use Rattle.port.specs.Port.{box_frame, box_full, box_injected, box_unsent};
 ghost use Rattle.port.specs.View.{outbox_of};
 ghost use Rattle.ring.specs.Queue.{head?};
-ghost use Rattle.std.specs.Prelude.{◌≡◌, false};
+ghost use Rattle.std.specs.Prelude.{◌≡◌, if◌then◌else◌};
 
 use super::Outbox;
 use symbol::Frame;
@@ -20,16 +20,20 @@ impl Outbox {
         self.frames.first()
     }
 
-    // The next frame joins an outbox that is not full; the answer is its number.
-    pub(crate) fn inject(&mut self) -> u32
-        requires { box_full (outbox_of self.old) ≡ false }
-        ensures state { outbox_of self.new ≡ box_injected (outbox_of self.old) }
-        ensures answer { result ≡ box_number (outbox_of self.old) }
+    // The next frame joins the outbox, unless that is full.
+    pub(crate) fn inject(&mut self) -> Option<Frame>
+        ensures state { let o = outbox_of self.old in
+            outbox_of self.new ≡ (if box_full o then o else box_injected o) }
+        ensures answer { let o = outbox_of self.old in
+            result ≡ (if box_full o then None else Some (box_frame o)) }
     {
         let number = self.injected.saturating_add(1);
-        let _ = self.frames.push(Frame { number });
+        let frame = Frame { number };
+        if !self.frames.push(frame) {
+            return None;
+        }
         self.injected = number;
-        number
+        Some(frame)
     }
 
     // The oldest frame has been sent.

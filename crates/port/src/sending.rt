@@ -15,27 +15,21 @@ impl Port {
             after_send (view self.old) (choice (view self.old) waiting) }
         ensures answer { result ≡ choice (view self.old) waiting }
     {
-        if self.frames_out.due {
-            self.frames_out.mark();
+        if self.frames_out.take_mark() {
             return Some(Symbol::Mark(Mark::BbScS));
         }
-        if self.rrdys_out.due {
-            self.rrdys_out.mark();
+        if self.rrdys_out.take_mark() {
             return Some(Symbol::Mark(Mark::BbScR));
         }
-        if self.buffers.owed > 0 {
-            self.buffers.answer();
-            self.rrdys_out.send(self.n);
+        if self.buffers.answer() {
+            self.rrdys_out.send(self.modulus);
             return Some(Symbol::RRdy);
         }
-        if !self.credit.is_left() {
+        let frame = waiting?;
+        if !self.credit.spend() {
             return None;
         }
-        let Some(frame) = waiting else {
-            return None;
-        };
-        self.credit.spend();
-        self.frames_out.send(self.n);
+        self.frames_out.send(self.modulus);
         Some(Symbol::Frame(frame))
     }
 

@@ -1,25 +1,34 @@
 // The calls on the counted streams; their counts are masked modulo 2^N.
-ghost use Rattle.std.specs.Prelude.{◌≡◌, ◌^◌, ◌<◌, ◌≤◌};
+ghost use Rattle.std.specs.Prelude.{◌≡◌, ◌%◌, ◌^◌, ◌<◌, ◌≤◌};
 ghost use Rattle.port.specs.Port.{corrected, counted, lost_of, mark_sent, one_more_got, one_more_lost, one_more_sent};
 ghost use Rattle.port.specs.View.{inflow_of, outflow_of};
 
-use super::{Inflow, Outflow};
+use super::{Inflow, Modulus, Outflow};
+use std::mem;
 
-// One more, modulo 2^N.
-fn counted(n: u8, count: u16) -> u16
-    requires { (n ≤ 15) × (count < 2 ^ n) }
-    ensures value { result ≡ counted n count }
-    ensures below { result < 2 ^ n }
-{
-    (count + 1) & ((1 << n) - 1)
-}
+impl Modulus {
+    #[tactic(auto, using(crate::proofs::Masks::shl, std::proofs::lemmas::Nat::and_mask))]
+    fn masked(self, count: u16) -> u16
+        ensures { result ≡ count % 2 ^ self.n }
+    {
+        count & ((1 << self.n) - 1)
+    }
 
-// How many of a stream a mark finds lost.
-pub(crate) fn lost_of(n: u8, got: u16) -> u16
-    requires { (n ≤ 15) × (got < 2 ^ n) }
-    ensures { result ≡ lost_of n got }
-{
-    ((1 << n) - got) & ((1 << n) - 1)
+    // One more.
+    #[tactic(auto, using(crate::proofs::Masks::wrapped))]
+    fn counted(self, count: u16) -> u16
+        ensures { result ≡ counted self.n count }
+    {
+        self.masked(count.wrapping_add(1))
+    }
+
+    // How many of a stream a mark finds lost.
+    #[tactic(auto, using(crate::proofs::Masks::shl))]
+    pub(crate) fn lost_of(self, got: u16) -> u16
+        ensures { result ≡ lost_of self.n got }
+    {
+        self.masked((1u16 << self.n).saturating_sub(got))
+    }
 }
 
 impl Inflow {
@@ -29,12 +38,10 @@ impl Inflow {
         self.lost = self.lost.saturating_add(1);
     }
 
-    pub(crate) fn get(&mut self, n: u8)
-        requires { (n ≤ 15) × (self.old.got < 2 ^ n) }
-        ensures state { inflow_of self.new ≡ one_more_got n (inflow_of self.old) }
-        ensures below { self.new.got < 2 ^ n }
+    pub(crate) fn get(&mut self, modulus: Modulus)
+        ensures { inflow_of self.new ≡ one_more_got modulus.n (inflow_of self.old) }
     {
-        self.got = counted(n, self.got);
+        self.got = modulus.counted(self.got);
     }
 
     // Its mark has arrived, and some were made good.
@@ -47,19 +54,18 @@ impl Inflow {
 }
 
 impl Outflow {
-    pub(crate) fn send(&mut self, n: u8)
-        requires { (n ≤ 15) × (self.old.sent < 2 ^ n) }
-        ensures state { outflow_of self.new ≡ one_more_sent n (outflow_of self.old) }
-        ensures below { self.new.sent < 2 ^ n }
+    pub(crate) fn send(&mut self, modulus: Modulus)
+        ensures { outflow_of self.new ≡ one_more_sent modulus.n (outflow_of self.old) }
     {
-        self.sent = counted(n, self.sent);
-        self.due = self.due || (self.sent == 0 && n > 0);
+        self.sent = modulus.counted(self.sent);
+        self.due = self.due || (self.sent == 0 && modulus.n > 0);
     }
 
-    // Its mark has been sent.
-    pub(crate) fn mark(&mut self)
-        ensures { outflow_of self.new ≡ mark_sent (outflow_of self.old) }
+    // Its mark is sent, if one is due.
+    pub(crate) fn take_mark(&mut self) -> bool
+        ensures state { outflow_of self.new ≡ mark_sent (outflow_of self.old) }
+        ensures answer { result ≡ self.old.due }
     {
-        self.due = false;
+        mem::take(&mut self.due)
     }
 }

@@ -5,7 +5,6 @@ ghost use Rattle.port.specs.View.{view};
 ghost use Rattle.std.specs.Prelude.{◌≡◌};
 
 use super::Port;
-use super::stream_calls::lost_of;
 use symbol::{Frame, Item, Mark, Note, Symbol};
 
 impl Port {
@@ -13,9 +12,8 @@ impl Port {
     fn frame_arrives(&mut self, frame: Frame)
         ensures { view self.new ≡ frame_arrived (view self.old) frame }
     {
-        if !self.buffers.is_full() {
-            self.buffers.fill(frame);
-            self.frames_in.get(self.n);
+        if self.buffers.fill(frame) {
+            self.frames_in.get(self.modulus);
         }
     }
 
@@ -23,19 +21,19 @@ impl Port {
     fn rrdy_arrives(&mut self)
         ensures { view self.new ≡ rrdy_arrived (view self.old) }
     {
-        if self.credit.used > 0 {
-            self.credit.give_back(1);
-            self.rrdys_in.get(self.n);
+        if self.credit.give_back(1) > 0 {
+            self.rrdys_in.get(self.modulus);
         }
     }
 
     // A sound BB_SCs: R_RDYs are owed for the frames that it finds lost, as far as there are free buffers.
+    // One call for both marks would take a closure that changes a field, and its proof does not learn how.
     fn frames_marked(&mut self) -> u8
         ensures state { view self.new ≡ frames_corrected (view self.old) }
         ensures answer { result ≡ frames_found (view self.old) }
     {
-        let good = lost_of(self.n, self.frames_in.got).min(self.buffers.free() as u16) as u8;
-        self.buffers.owe(good);
+        let lost = self.modulus.lost_of(self.frames_in.got);
+        let good = self.buffers.owe(lost);
         self.frames_in.correct(good);
         good
     }
@@ -45,8 +43,8 @@ impl Port {
         ensures state { view self.new ≡ rrdys_corrected (view self.old) }
         ensures answer { result ≡ rrdys_found (view self.old) }
     {
-        let good = lost_of(self.n, self.rrdys_in.got).min(self.credit.used as u16) as u8;
-        self.credit.give_back(good);
+        let lost = self.modulus.lost_of(self.rrdys_in.got);
+        let good = self.credit.give_back(lost);
         self.rrdys_in.correct(good);
         good
     }

@@ -1,2 +1,3 @@
 pub mod Windows
 pub mod Rings
+pub mod Turns

@@ -1,24 +1,17 @@
-use Rattle.std.proofs.Common.{◌<◌, length, sym, ap, arith}
+use Rattle.std.proofs.Common.{not, eqb, length, sym, ap, ◌∙◌, arith, rules}
 use Rattle.ring.specs.Contents.{contents}
-use Rattle.port.specs.Port.{without}
-use Rattle.port.proofs.Numbers.{fewer_without}
+use Rattle.port.proofs.Numbers.{fewer_without, retained}
 use Rattle.port.proofs.Buffers.release.Goals as goal
 
-fewer : (c : goal.After-remove)
-    → length (without c.args.number (contents c.args.self.now.out)) < length
-    (contents c.args.self.now.out)
-fewer c = fewer_without c.args.number (contents c.args.self.now.out) (sym c.if-is_out.ensures)
+pub invariant_of-self-clause-kept : goal.invariant_of-self-clause-kept
+invariant_of-self-clause-kept c =
+    let k = c.args.number in
+    let out = contents c.args.self.now.out in
+    let is = c.retain.ensures (λ x. not (eqb x k)) (search rules) ∙ retained k out in
+    omega (arith, ap length is, fewer_without k out (sym c.if-is_out.ensures))
 
-pub overflow_sub-self : goal.overflow_sub-self
-overflow_sub-self c = omega (arith, fewer c)
-
-pub invariant_of-self : goal.invariant_of-self
-invariant_of-self c =
-    let less = fewer c in
-    let is = ap length c.remove.ensures in
-    record {
-      within = omega arith;
-      some = omega arith;
-      few = omega arith;
-      kept = omega arith;
-    }
+pub returns-then-is_out : goal.returns-then-is_out
+returns-then-is_out c =
+    let k = c.args.number in
+    let is = c.retain.ensures (λ x. not (eqb x k)) (search rules) ∙ retained k (contents c.args.self.now.out) in
+    search (rules, is)

@@ -6,25 +6,22 @@ use Rattle.ring.proofs.Rings.{ring_length, any_more}
 use Rattle.ring.proofs.Ring.any.Goals as goal
 
 pub returns : goal.returns
-returns g c =
+returns g c = λ p h.
     let r = c.args.self.now in
-    sym
-    (at_drop_all (any (g.Q.Test.passes c.args.test.now)) (contents r) c.loop-i.i
-    (omega (arith, ring_length r)))
-    ∙ c.loop-i.invariant
+    sym (at_drop_all (any p) (contents r) c.loop-i.i (omega (arith, ring_length r)))
+    ∙ c.loop-i.invariant.1 p h
 
-pub returns-then-passes : goal.returns-then-passes
-returns-then-passes g c =
+pub returns-then-test : goal.returns-then-test
+returns-then-test g c = λ p h.
     let here = any_more c.args.self.now c.loop-i.i c.place-at.result c.index-self-at.result in
-    sym
-    (here c.loop-i-test.true c.place-at.ensures (g.Q.Test.passes c.args.test.now) _
-    c.if-passes.ensures)
-    ∙ c.loop-i.invariant
+    sym (here c.loop-i-test.true c.place-at.ensures p _ (sym c.if-test.true ∙ h _ _ c.test.ensures))
+    ∙ c.loop-i.invariant.1 p h
 
 pub loop-i-preserved : goal.loop-i-preserved
 loop-i-preserved g c =
-    let here = any_more c.args.self.now c.loop-i.i c.place-at.result c.index-self-at.result in
-    sym
-    (here c.loop-i-test.true c.place-at.ensures (g.Q.Test.passes c.args.test.now) _
-    c.if-passes.ensures)
-    ∙ c.loop-i.invariant
+    let here = any_more c.args.self.now c.loop-i.i c.place-at.result c.index-self-at.result in (
+      c.loop-i.invariant.0,
+      λ p h.
+          sym (here c.loop-i-test.true c.place-at.ensures p _ (sym c.if-test.false ∙ h _ _ c.test.ensures))
+          ∙ c.loop-i.invariant.1 p h,
+    )
