@@ -4,59 +4,60 @@
 use bank::Bank;
 use bank::pair::Pair;
 use chain::cabling::cable;
+use chain::login::Login;
 use chain::states::{Cabled, Chain, Draining, Moving, Running};
 use chain::token::Token;
-use channel::Channel;
+use eventlog::sheet::Sheet;
 use links::losses::Losses;
 use links::{OneLink, one_link};
-use listing::part::list_part;
+use listing::part::write_listing;
 use loss::script::LossEntry;
-use model::{End, Refusal};
+use model::Refusal;
 use port::figures::Figures;
-use reader::reader::Reader;
-use std::io::Write;
 use symbol::SymbolKind;
+use symbol::end::End;
 
 const SHEET: usize = 8192;
 
-// A sheet and the bytes used of it.
-#[derive(Drop)]
-struct Log {
-    sheet: Vec<u8>,
-    used: usize,
+// The loss of one symbol of a kind, by its number.
+fn loss_of(kind: SymbolKind, first: u32) -> LossEntry {
+    let count = 1;
+    LossEntry { kind, first, count }
 }
 
+// The second frame is lost on the way east of the west link, and the first R_RDY on the way west of the east link.
 fn two_links() -> Pair<OneLink, OneLink> {
     let mut west = Losses::new();
-    let second_frame = LossEntry {
-        kind: SymbolKind::Frame,
-        first: 2,
-        count: 1,
-    };
-    let _ = west.add(0, second_frame);
+    let _ = west.add(0, loss_of(SymbolKind::Frame, 2));
     let mut east = Losses::new();
-    let first_rrdy = LossEntry {
-        kind: SymbolKind::RRdy,
-        first: 1,
-        count: 1,
-    };
-    let _ = east.add(1, first_rrdy);
+    let _ = east.add(1, loss_of(SymbolKind::RRdy, 1));
     Pair::new(one_link(&west), one_link(&east))
 }
 
+// Four buffers at each end of a link.
+fn four_each(link: u32, n: u32) -> Login {
+    Login {
+        link,
+        west: 4,
+        east: 4,
+        west_n: n,
+        east_n: n,
+    }
+}
+
 fn log_in<B: Bank>(chain: &mut Chain<B, Cabled>) -> Result<(), Refusal> {
-    chain.login(0, 4, 4, 2, 2)?;
-    chain.login(1, 4, 4, 1, 1)
+    chain.login(four_each(0, 2))?;
+    chain.login(four_each(1, 1))
 }
 
 fn inject<B: Bank>(
     chain: &mut Chain<B, Running>,
     end: End,
     count: u32,
-    log: &mut Log,
+    sheet: &mut Sheet<'_>,
 ) -> Result<(), Refusal> {
     for _ in 0..count {
-        log.used = chain.inject(end, log.sheet.as_mut_slice(), log.used)?;
+        chain.inject(end, sheet)?;
     }
     Ok(())
 }
@@ -64,10 +65,10 @@ fn inject<B: Bank>(
 fn step<B: Bank, S: Moving>(
     chain: &mut Chain<B, S>,
     count: u32,
-    log: &mut Log,
+    sheet: &mut Sheet<'_>,
 ) -> Result<(), Refusal> {
     for _ in 0..count {
-        log.used = chain.step(log.sheet.as_mut_slice(), log.used)?;
+        chain.step(sheet)?;
     }
     Ok(())
 }
@@ -75,78 +76,52 @@ fn step<B: Bank, S: Moving>(
 fn release<B: Bank, S: Moving>(
     chain: &mut Chain<B, S>,
     token: Token,
-    log: &mut Log,
+    sheet: &mut Sheet<'_>,
 ) -> Result<(), Refusal> {
-    match chain.release(token, log.sheet.as_mut_slice(), log.used) {
-        Ok(used) => {
-            log.used = used;
-            Ok(())
-        }
-        Err((token, refusal)) => {
-            token.write_off();
-            Err(refusal)
-        }
-    }
+    chain.release(token, sheet).map_err(|(token, refusal)| {
+        token.write_off();
+        refusal
+    })
 }
 
 // Collects every frame that waits at an end, and releases each a step late.
 fn collect_all<B: Bank, S: Moving>(
     chain: &mut Chain<B, S>,
     end: End,
-    log: &mut Log,
+    sheet: &mut Sheet<'_>,
 ) -> Result<(), Refusal> {
     for _ in 0..32 {
-        let Ok((token, used)) = chain.collect(end, log.sheet.as_mut_slice(), log.used) else {
+        let Ok(token) = chain.collect(end, sheet) else {
             break;
         };
-        log.used = used;
-        let stepped = step(chain, 1, log);
-        release(chain, token, log)?;
+        let stepped = step(chain, 1, sheet);
+        release(chain, token, sheet)?;
         stepped?;
     }
     Ok(())
 }
 
 // The first frame at the east end is collected and kept: its buffer stays held.
-fn keep_one<B: Bank, S: Moving>(chain: &mut Chain<B, S>, log: &mut Log) -> Result<(), Refusal> {
-    let (token, used) = chain.collect(End::East, log.sheet.as_mut_slice(), log.used)?;
-    token.write_off();
-    log.used = used;
+fn keep_one<B: Bank, S: Moving>(
+    chain: &mut Chain<B, S>,
+    sheet: &mut Sheet<'_>,
+) -> Result<(), Refusal> {
+    chain.collect(End::East, sheet)?.write_off();
     Ok(())
 }
 
-fn run<B: Bank>(chain: &mut Chain<B, Running>, log: &mut Log) -> Result<(), Refusal> {
-    inject(chain, End::West, 6, log)?;
-    inject(chain, End::East, 3, log)?;
-    step(chain, 10, log)?;
-    keep_one(chain, log)
+fn run<B: Bank>(chain: &mut Chain<B, Running>, sheet: &mut Sheet<'_>) -> Result<(), Refusal> {
+    inject(chain, End::West, 6, sheet)?;
+    inject(chain, End::East, 3, sheet)?;
+    step(chain, 10, sheet)?;
+    keep_one(chain, sheet)
 }
 
-fn drain<B: Bank>(chain: &mut Chain<B, Draining>, log: &mut Log) -> Result<(), Refusal> {
+fn drain<B: Bank>(chain: &mut Chain<B, Draining>, sheet: &mut Sheet<'_>) -> Result<(), Refusal> {
     for _ in 0..4 {
-        step(chain, 6, log)?;
-        collect_all(chain, End::East, log)?;
-        collect_all(chain, End::West, log)?;
-    }
-    Ok(())
-}
-
-fn print_log(rt: &HostRuntime, log: &Log) -> anyhow::Result<()> {
-    let sheet = log.sheet.as_slice();
-    let written = if log.used <= sheet.len() {
-        &sheet[0..log.used]
-    } else {
-        sheet
-    };
-    let mut reader = Reader::new(written);
-    let mut text = String::new(rt.alloc());
-    for _ in 0..u64::MAX {
-        let more = list_part(&mut reader, &mut text)?;
-        rt.stdout().write_all(text.as_bytes())?;
-        if !more {
-            break;
-        }
-        text.clear();
+        step(chain, 6, sheet)?;
+        collect_all(chain, End::East, sheet)?;
+        collect_all(chain, End::West, sheet)?;
     }
     Ok(())
 }
@@ -173,35 +148,27 @@ fn told(rt: &HostRuntime, what: &str, done: Result<(), Refusal>) -> anyhow::Resu
     match done {
         Ok(()) => println!(rt; "{what}: done")?,
         Err(refusal) => {
-            let number = refusal.number();
-            println!(rt; "{what}: refused {number}")?;
+            println!(rt; "{what}: refused {}", u8::from(refusal))?;
         }
     }
     Ok(())
 }
 
 fn main(rt: HostRuntime) -> anyhow::Result<()> {
-    let mut log = Log {
-        sheet: vec![in rt.alloc(); 0u8; SHEET]?,
-        used: 0,
-    };
+    let mut bytes = vec![in rt.alloc(); 0u8; SHEET]?;
+    let mut sheet = Sheet::new(bytes.as_mut_slice(), 0);
     let mut cabled = cable(two_links());
     let logins = log_in(&mut cabled);
     let mut running = cabled.start();
-    let ran = run(&mut running, &mut log);
+    let ran = run(&mut running, &mut sheet);
     let mut draining = running.drain();
-    let drained = drain(&mut draining, &mut log);
-    let figures = [
-        draining.figures(0),
-        draining.figures(1),
-        draining.figures(2),
-        draining.figures(3),
-    ];
+    let drained = drain(&mut draining, &mut sheet);
+    let figures = [0, 1, 2, 3].map(|port| draining.figures(port));
     let _bank = draining.close();
     told(&rt, "logins", logins)?;
     told(&rt, "run", ran)?;
     told(&rt, "drain", drained)?;
-    print_log(&rt, &log)?;
+    write_listing::<_, anyhow::Error>(rt.alloc(), sheet.written(), &mut rt.stdout())?;
     for (port, f) in figures.iter().enumerate() {
         print_port(&rt, port, *f)?;
     }

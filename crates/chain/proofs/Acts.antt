@@ -1,33 +1,26 @@
 -- Acts one after another.
-use Rattle.std.proofs.Common.{◌≡◌, ℕ, ◌+◌, ◌*◌, List, [], ◌∷◌, ◌++◌, sym, refl, ap, ◌∙◌, subst, add-one}
-use Rattle.eventlog.specs.Sheet.{Sheet, appended, logged}
-use Rattle.eventlog.specs.Format.{encode}
-use Rattle.eventlog.specs.declared.event.Event.{Event}
+use Rattle.std.proofs.Common.{◌≡◌, ℕ, ◌+◌, ◌*◌, sym, refl, ap, ◌∙◌, subst, add-one}
+use Rattle.eventlog.specs.Sheet.{Logs}
+use Rattle.eventlog.specs.declared.sheet.Sheet.{Sheet}
+use Rattle.eventlog.proofs.Sheets.{logs_nothing, logs_then}
 use Rattle.port.specs.Port.{Turn, and_then, no_act}
 use Rattle.bank.specs.Bank.{BankCalls}
 use Rattle.model.specs.Chain.{Chain, each_port, sends, stepped, takes, ticked}
 use Rattle.model.proofs.Links.{takes_links, each_links}
 use Rattle.chain.specs.Acts.{Acted}
 
-pub logged-append : (s : Sheet) (ds es : List Event) → logged (logged s ds) es ≡ logged s (ds ++ es)
-logged-append s [] es = refl
-logged-append s (d ∷ ds) es = logged-append (appended s (encode d)) ds es
-
--- two sheets in a row
-pub logged_then : (s t u : Sheet) (ds es : List Event) → t ≡ logged s ds → u ≡ logged t es → u ≡ logged s (ds ++ es)
-logged_then s t u ds es first then = then ∙ ap (λ x. logged x es) first ∙ logged-append s ds es
-
 module _ {C : Type 0} where
   pub acted_none : (c : C) (s : Sheet) → Acted (no_act c) s c s
-  acted_none c s = record { state = refl; sheet = refl }
+  acted_none c s = record { state = refl; log = logs_nothing s }
 
   pub acted_then : (t : Turn C) (f : C → Turn C) (s u v : Sheet) (d e : C)
       → Acted t s d u → Acted (f d) u e v → Acted (and_then t f) s e v
-  acted_then t f s u v d e first then = record {
-    state = then.state ∙ ap (λ x. (f x).state) first.state;
-    sheet = logged_then s u v t.events (f t.state).events first.sheet
-        (then.sheet ∙ ap (λ x. logged u (f x).events) first.state);
-  }
+  acted_then t f s u v d e first then =
+      let P : C → Type 0 = λ x. Logs u (f x).events v in
+      record {
+        state = then.state ∙ ap (λ x. (f x).state) first.state;
+        log = logs_then s u v t.events (f t.state).events first.log (subst P first.state then.log);
+      }
 
 -- one more port of a loop
 pub each_more : {B : Type 0} (f : Chain B → ℕ → Turn (Chain B)) (c d e : Chain B) (s t u : Sheet) (k : ℕ)

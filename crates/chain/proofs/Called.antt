@@ -1,75 +1,77 @@
 -- Calls that are refused, and calls that write their records.
-use Rattle.std.proofs.Common.{◌≡◌, ℕ, ◌+◌, ◌-◌, ◌≤◌, ◌&&◌, List, [], length, Some, None, Ok, Err, Option, Result}
-use Rattle.std.proofs.Common.{sym, refl, ap, ◌∙◌, subst, add-zero, add-one, arith}
-use Rattle.std.proofs.lemmas.List.{take-append-drop}
-use Rattle.std.proofs.lemmas.Bool.{le-leb}
+use Rattle.std.proofs.Common.{◌≡◌, ℕ, ◌+◌, ◌≤◌, ◌&&◌, Bool, [], ◌∷◌, ◌++◌, length, Some, None, Ok}
+use Rattle.std.proofs.Common.{Err, Option, Result, sym, refl, subst, ap, ap₂, ◌∙◌, add-one, arith}
+use Rattle.std.proofs.Math.Bool.{and-true}
+use Rattle.std.specs.List.{list_all, range_with_len}
+use Rattle.std.proofs.lemmas.List.{map-id}
+use Rattle.std.proofs.lemmas.List.Folds.{list_all-append}
+use Rattle.std.proofs.lemmas.List.FromFn.{map-range_with_len_more}
 use Rattle.symbol.specs.declared.Frame.{Frame}
-use Rattle.eventlog.specs.declared.event.Event.{Event}
+use Rattle.symbol.specs.declared.end.End.{End}
 use Rattle.eventlog.specs.Format.{encode_all}
-use Rattle.eventlog.specs.Sheet.{Sheet, splice, written, logged}
-use Rattle.eventlog.proofs.Sheets.{logged_whole}
+use Rattle.eventlog.specs.Sheet.{Logs, room}
+use Rattle.eventlog.specs.declared.sheet.Sheet.{Sheet}
+use Rattle.eventlog.proofs.Sheets.{wrote, wrote_nothing}
 use Rattle.port.specs.Port.{Turn}
 use Rattle.bank.specs.Bank.{BankCalls}
-use Rattle.symbol.specs.declared.end.End.{End}
 use Rattle.model.specs.declared.Refusal.{Refusal}
 use Rattle.channel.specs.Calls.{idle}
-use Rattle.model.specs.Chain.{Chain, all_idle, collects_by, unless_refused}
+use Rattle.model.specs.Chain.{Chain, all_idle, answer, call_bytes, collects_by, unless_refused}
 use Rattle.chain.specs.declared.token.Token.{Token}
 use Rattle.chain.specs.Calls.{Called, handed_over}
 
--- nothing written is nothing changed
-pub splice_nil : (xs : List ℕ) (at : ℕ) → splice xs at [] ≡ xs
-splice_nil xs at = rw add-zero (take-append-drop at xs)
+-- what an answer says of the refusal behind it
 
--- records that fit stand behind the bytes used
-pub record Wrote (sheet : List ℕ) (used : ℕ) (es : List Event) (after : List ℕ) (end : ℕ) : Type 0 where
-  pub bytes : after ≡ splice sheet used (encode_all es)
-  pub end_is : end ≡ used + length (encode_all es)
+refused : (o : Option Refusal) (e : Refusal) → Err e ≡ answer o (tt {0}) → o ≡ Some e
+refused None e is = cc
+refused (Some x) e is = cc
 
-pub wrote : (sheet : List ℕ) (used : ℕ) (es : List Event) (after : List ℕ) (end : ℕ)
-    → length (encode_all es) ≤ length sheet - used → used ≤ length sheet
-    → ◌≡◌ {A = Sheet} (after, end) (logged (sheet, used) es) → Wrote sheet used es after end
-unfolding written
-wrote sheet used es after end room inside is =
-    let fits : used + length (encode_all es) ≤ length sheet = omega arith in
-    let whole = is ∙ logged_whole (sheet, used) es (le-leb (used + length (encode_all es)) (length sheet) fits) in
-    record { bytes = ap (λ s. s.0) whole; end_is = ap (λ s. s.1) whole }
+not_refused : (o : Option Refusal) → Ok (tt {0}) ≡ answer o (tt {0}) → o ≡ None
+not_refused None is = refl
+not_refused (Some x) is = cc
 
 -- A call that its refusal decides, refused and not; `a` is its answer, by the refusal.
-module _ {C R : Type 0} (c : C) (t : Turn C) (a : Option Refusal → R) (sheet : List ℕ) (used : ℕ) where
-  pub refused_call : (o : Option Refusal) (e : Refusal) → Some e ≡ o
-      → Called (unless_refused o c t) (a o) sheet used c sheet (a (Some e))
-  refused_call o e is =
-      let P : Option Refusal → Type 0 = λ x. Called (unless_refused x c t) (a x) sheet used c sheet (a (Some e)) in
-      subst P is (record { state = refl; bytes = sym (splice_nil sheet used); answers = refl })
+module _ {C R : Type 0} (c : C) (t : Turn C) (a : Option Refusal → R) (s : Sheet) (o : Option Refusal) where
+  pub refused_call : (e : Refusal) (r : R) → Err e ≡ answer o (tt {0}) → r ≡ a (Some e)
+      → Called (unless_refused o c t) (a o) s c s r
+  refused_call e r is answers =
+      let P : Option Refusal → Type 0 = λ x. Called (unless_refused x c t) (a x) s c s r in
+      subst P (sym (refused o e is)) (record { state = refl; log = wrote_nothing s; answers = answers })
 
-  pub made_call : (o : Option Refusal) (d : C) (after : List ℕ) (end : ℕ) (r : R) → None ≡ o → d ≡ t.state
-      → Wrote sheet used t.events after end → r ≡ a None
-      → Called (unless_refused o c t) (a o) sheet used d after r
-  made_call o d after end r is state w answers =
-      let P : Option Refusal → Type 0 = λ x. Called (unless_refused x c t) (a x) sheet used d after r in
-      subst P is (record { state = state; bytes = w.bytes; answers = answers })
+  pub made_call : (d : C) (u : Sheet) (r : R) → Ok (tt {0}) ≡ answer o (tt {0}) → length (encode_all t.events) ≤ room s
+      → s.used ≤ length s.bytes.now → d ≡ t.state → Logs s t.events u → r ≡ a None
+      → Called (unless_refused o c t) (a o) s d u r
+  made_call d u r is left inside state log answers =
+      let P : Option Refusal → Type 0 = λ x. Called (unless_refused x c t) (a x) s d u r in
+      subst P (sym (not_refused o is))
+      (record { state = state; log = wrote s u t.events inside left log; answers = answers })
 
 -- The same of a collect, by the frame that it hands out.
-module _ {B : Type 0} (M : BankCalls B) (c : Chain B) (e : End) (sheet : List ℕ) (used n : ℕ) where
-  pub refused_collect : (q : Result Frame Refusal) (x : Refusal) (r : Result (Token × ℕ) Refusal) → Err x ≡ q
-      → r ≡ Err x
-      → Called (collects_by M c e q) (handed_over e q n) sheet used c sheet r
-  refused_collect q x r is answers =
-      let P : Result Frame Refusal
-      → Type 0 = λ y. Called (collects_by M c e y) (handed_over e y n) sheet used c sheet r in
-      subst P is (record { state = refl; bytes = sym (splice_nil sheet used); answers = answers })
+module _ {B : Type 0} (M : BankCalls B) (c : Chain B) (e : End) (s : Sheet) (q : Result Frame Refusal) where
+  pub refused_collect : (x : Refusal) (r : Result Token Refusal) → Err x ≡ q → r ≡ Err x
+      → Called (collects_by M c e q) (handed_over e q) s c s r
+  refused_collect x r is answers =
+      let P : Result Frame Refusal → Type 0 = λ y. Called (collects_by M c e y) (handed_over e y) s c s r in
+      subst P is (record { state = refl; log = wrote_nothing s; answers = answers })
 
-  pub made_collect : (q : Result Frame Refusal) (f : Frame) (d : Chain B) (after : List ℕ) (end : ℕ) → Ok f ≡ q
-      → d ≡ (collects_by M c e (Ok f)).state → Wrote sheet used (collects_by M c e (Ok f)).events after end → end ≡ n
-      → Called (collects_by M c e q) (handed_over e q n) sheet used d after (Ok (record { end = e; frame = f }, end))
-  made_collect q f d after end is state w size =
-      let token : Token = record { end = e; frame = f } in
-      let P : Result Frame Refusal → Type 0 = λ y.
-      Called (collects_by M c e y) (handed_over e y n) sheet used d after (Ok (token, end)) in
-      subst P is (record { state = state; bytes = w.bytes; answers = ap (λ k. Ok (token, k)) size })
+  pub made_collect : (f : Frame) (d : Chain B) (u : Sheet) (r : Result Token Refusal) → Ok f ≡ q → call_bytes ≤ room s
+      → d ≡ (collects_by M c e (Ok f)).state → Logs s (collects_by M c e (Ok f)).events u
+      → r ≡ Ok (record { end = e; frame = f }) → Called (collects_by M c e q) (handed_over e q) s d u r
+  made_collect f d u r is left state log answers =
+      let P : Result Frame Refusal → Type 0 = λ y. Called (collects_by M c e y) (handed_over e y) s d u r in
+      let inside : s.used ≤ length s.bytes.now = omega arith in
+      subst P is
+      (record { state = state; log = wrote s u (collects_by M c e (Ok f)).events inside left log; answers = answers })
 
--- one more channel is idle
-pub idle_more : {B : Type 0} (M : BankCalls B) (b : B) (d : ℕ)
-    → all_idle M b (d + 1) ≡ (all_idle M b d && idle (M.known b d))
-idle_more M b d = rw add-one
+-- whether all of some first channels are idle, asked one after another
+pub all_idle_is : {B : Type 0} (M : BankCalls B) (b : B) (n : ℕ)
+    → list_all (λ d. idle (M.known b d)) (range_with_len 0 n) ≡ all_idle M b n
+all_idle_is M b ℕ.zero = refl
+all_idle_is M b (ℕ.suc n) =
+    let test : ℕ → Bool = λ d. idle (M.known b d) in
+    let more : range_with_len 0 (n + 1) ≡ range_with_len 0 n ++ (n ∷ []) =
+    sym (map-id (range_with_len 0 (n + 1))) ∙ map-range_with_len_more (λ x. x) 0 n n (omega arith)
+    ∙ ap (λ xs. xs ++ (n ∷ [])) (map-id (range_with_len 0 n)) in
+    ap (λ k. list_all test (range_with_len 0 k)) (sym (add-one n)) ∙ ap (list_all test) more
+    ∙ list_all-append test (range_with_len 0 n) (n ∷ [])
+    ∙ ap₂ (λ x y. x && y) (all_idle_is M b n) (and-true (test n))

@@ -1,11 +1,13 @@
 // How a chain is made, and what belongs to a cabled one.
 ghost use Rattle.std.specs.Prelude.{◌≡◌, ◌≤◌, []};
 ghost use Rattle.chain.specs.View.{chain_of};
-ghost use Rattle.model.specs.Chain.{all_idle, answer, cabled, cabled_links, login_refusal, logins};
+ghost use Rattle.chain.specs.Calls.{check_login, login_call};
+ghost use Rattle.model.specs.Chain.{all_idle, cabled, cabled_links};
 ghost use Rattle.model.specs.Laws.{Continues, EveryRun};
 ghost use Rattle.model.specs.Run.{is_cabled, is_running};
 
 use crate::inner::Inner;
+use crate::login::Login;
 use crate::ports::Ports;
 use crate::states::{Cabled, Chain, Running};
 use bank::Bank;
@@ -15,11 +17,7 @@ use model::Refusal;
 fn all_idle<B: Bank>(bank: &B, count: u8) -> bool
     ensures { result ≡ all_idle B.Bank.calls (B.Bank.model bank.now) count }
 {
-    let mut idle = true;
-    for d in 0..count {
-        idle = idle && bank.is_idle(d);
-    }
-    idle
+    (0..count).all(|d| bank.is_idle(d))
 }
 
 fn links_of<B: Bank>(bank: &B) -> u8
@@ -54,22 +52,14 @@ pub fn cable<B: Bank>(bank: B) -> Chain<B, Cabled>
 
 impl<B: Bank> Chain<B, Cabled> {
     // Sets the buffers and the N of both ends of a link.
-    pub fn login(
-        &mut self,
-        link: u32,
-        west: u32,
-        east: u32,
-        west_n: u32,
-        east_n: u32,
-    ) -> Result<(), Refusal>
+    pub fn login(&mut self, login: Login) -> Result<(), Refusal>
         ensures state { chain_of B.Bank.model self.new.inner ≡
-            (logins B.Bank.calls (chain_of B.Bank.model self.old.inner) link west east west_n east_n).state }
-        ensures answer { result ≡ answer
-            (login_refusal B.Bank.calls (chain_of B.Bank.model self.old.inner) link west east west_n east_n) tt }
+            (login_call B.Bank.calls (chain_of B.Bank.model self.old.inner) login).state }
+        ensures answer { result ≡ check_login B.Bank.calls (chain_of B.Bank.model self.old.inner) login }
         ensures run { Continues B.Bank.calls is_cabled is_cabled
             (chain_of B.Bank.model self.old.inner) (chain_of B.Bank.model self.new.inner) [] }
     {
-        self.inner.login(link, west, east, west_n, east_n)
+        self.inner.login(login)
     }
 
     pub fn start(self) -> Chain<B, Running>

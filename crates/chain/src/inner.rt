@@ -4,7 +4,6 @@ ghost use Rattle.std.specs.Prelude.{◌≤◌};
 use super::ports::Ports;
 
 pub mod ends;
-pub mod numbers;
 pub mod step;
 
 // A chain of no links has a bank all the same.

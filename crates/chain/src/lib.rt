@@ -3,7 +3,9 @@
 
 pub mod cabling;
 pub mod inner;
+pub mod login;
 pub mod moving;
+mod numbers;
 pub mod ports;
 pub mod running;
 pub mod states;

@@ -1,5 +1,5 @@
 // The ports of a chain, by number.
-ghost use Rattle.std.specs.Prelude.{◌≡◌, ◌<◌, replicate, slice_set};
+ghost use Rattle.std.specs.Prelude.{◌≡◌, replicate, slice_set};
 ghost use Rattle.chain.specs.View.{ports_of};
 ghost use Rattle.model.specs.Chain.{port_at};
 ghost use Rattle.port.specs.Figures.{figures_of};
@@ -8,6 +8,7 @@ ghost use Rattle.port.specs.Port.{injects_at, logged_in, new_port, received, rel
 ghost use Rattle.port.specs.Port.{unsent};
 ghost use Rattle.ring.specs.Queue.{head?};
 
+use crate::numbers::PortNumber;
 use port::Port;
 use port::figures::Figures;
 use symbol::{Frame, Item, Symbol};
@@ -20,6 +21,7 @@ pub struct Ports {
     table: [Port; PORTS],
 }
 
+#[tactic(auto, using(crate::proofs::Tables::by_port))]
 impl Ports {
     pub(crate) fn new() -> Self
         ensures { ports_of result ≡ replicate 16 new_port }
@@ -29,108 +31,95 @@ impl Ports {
         }
     }
 
-    pub(crate) fn log_in(&mut self, p: u8, own: u8, other: u8, n: u8)
-        requires { p < 16 }
+    pub(crate) fn log_in(&mut self, p: PortNumber, own: u8, other: u8, n: u8)
         ensures { ports_of self.new ≡
-            slice_set (ports_of self.old) p (logged_in (some_buffers own) (some_buffers other) (some_n n)) }
+            slice_set (ports_of self.old) p.number (logged_in (some_buffers own) (some_buffers other) (some_n n)) }
     {
-        self.table[p as usize] = Port::new(own, other, n);
+        self.table[p.number as usize] = Port::new(own, other, n);
     }
 
-    pub(crate) fn receive(&mut self, p: u8, item: Item) -> u8
-        requires { p < 16 }
-        ensures state { ports_of self.new ≡ slice_set (ports_of self.old) p
-            (received (port_at (ports_of self.old) p) item.note item.symbol) }
+    pub(crate) fn receive(&mut self, p: PortNumber, item: Item) -> u8
+        ensures state { ports_of self.new ≡ slice_set (ports_of self.old) p.number
+            (received (port_at (ports_of self.old) p.number) item.note item.symbol) }
         ensures answer { result ≡
-            correction (port_at (ports_of self.old) p) item.note item.symbol }
+            correction (port_at (ports_of self.old) p.number) item.note item.symbol }
     {
-        self.table[p as usize].receive(item)
+        self.table[p.number as usize].receive(item)
     }
 
-    pub(crate) fn send(&mut self, p: u8, waiting: Option<Frame>) -> Option<Symbol>
-        requires { p < 16 }
-        ensures state { ports_of self.new ≡ slice_set (ports_of self.old) p
-            (after_send (port_at (ports_of self.old) p)
-            (choice (port_at (ports_of self.old) p) waiting)) }
-        ensures answer { result ≡ choice (port_at (ports_of self.old) p) waiting }
+    pub(crate) fn send(&mut self, p: PortNumber, waiting: Option<Frame>) -> Option<Symbol>
+        ensures state { ports_of self.new ≡ slice_set (ports_of self.old) p.number
+            (after_send (port_at (ports_of self.old) p.number)
+            (choice (port_at (ports_of self.old) p.number) waiting)) }
+        ensures answer { result ≡ choice (port_at (ports_of self.old) p.number) waiting }
     {
-        self.table[p as usize].send(waiting)
+        self.table[p.number as usize].send(waiting)
     }
 
-    pub(crate) fn oldest_held(&self, p: u8) -> Option<Frame>
-        requires { p < 16 }
-        ensures { result ≡ head? (port_at (ports_of self.now) p).buffers.waiting }
+    pub(crate) fn oldest_held(&self, p: PortNumber) -> Option<Frame>
+        ensures { result ≡ head? (port_at (ports_of self.now) p.number).buffers.waiting }
     {
-        self.table[p as usize].oldest_held()
+        self.table[p.number as usize].oldest_held()
     }
 
-    pub(crate) fn free_oldest(&mut self, p: u8)
-        requires { p < 16 }
+    pub(crate) fn free_oldest(&mut self, p: PortNumber)
         ensures { ports_of self.new ≡
-            slice_set (ports_of self.old) p (sent_on (port_at (ports_of self.old) p)) }
+            slice_set (ports_of self.old) p.number (sent_on (port_at (ports_of self.old) p.number)) }
     {
-        self.table[p as usize].free_oldest();
+        self.table[p.number as usize].free_oldest();
     }
 
-    pub(crate) fn oldest_injected(&self, p: u8) -> Option<Frame>
-        requires { p < 16 }
-        ensures { result ≡ head? (port_at (ports_of self.now) p).outbox.frames }
+    pub(crate) fn oldest_injected(&self, p: PortNumber) -> Option<Frame>
+        ensures { result ≡ head? (port_at (ports_of self.now) p.number).outbox.frames }
     {
-        self.table[p as usize].oldest_injected()
+        self.table[p.number as usize].oldest_injected()
     }
 
-    pub(crate) fn drop_oldest(&mut self, p: u8)
-        requires { p < 16 }
+    pub(crate) fn drop_oldest(&mut self, p: PortNumber)
         ensures { ports_of self.new ≡
-            slice_set (ports_of self.old) p (unsent (port_at (ports_of self.old) p)) }
+            slice_set (ports_of self.old) p.number (unsent (port_at (ports_of self.old) p.number)) }
     {
-        self.table[p as usize].drop_oldest();
+        self.table[p.number as usize].drop_oldest();
     }
 
-    pub(crate) fn is_outbox_full(&self, p: u8) -> bool
-        requires { p < 16 }
-        ensures { result ≡ box_full (port_at (ports_of self.now) p).outbox }
+    pub(crate) fn is_outbox_full(&self, p: PortNumber) -> bool
+        ensures { result ≡ box_full (port_at (ports_of self.now) p.number).outbox }
     {
-        self.table[p as usize].is_outbox_full()
+        self.table[p.number as usize].is_outbox_full()
     }
 
-    pub(crate) fn inject(&mut self, p: u8) -> Option<Frame>
-        requires { p < 16 }
+    pub(crate) fn inject(&mut self, p: PortNumber) -> Option<Frame>
         ensures state { ports_of self.new ≡
-            slice_set (ports_of self.old) p (injects_at (port_at (ports_of self.old) p)) }
-        ensures answer { result ≡ injected_frame (port_at (ports_of self.old) p) }
+            slice_set (ports_of self.old) p.number (injects_at (port_at (ports_of self.old) p.number)) }
+        ensures answer { result ≡ injected_frame (port_at (ports_of self.old) p.number) }
     {
-        self.table[p as usize].inject()
+        self.table[p.number as usize].inject()
     }
 
-    pub(crate) fn hand_out(&mut self, p: u8) -> Option<Frame>
-        requires { p < 16 }
+    pub(crate) fn hand_out(&mut self, p: PortNumber) -> Option<Frame>
         ensures state { ports_of self.new ≡
-            slice_set (ports_of self.old) p (handed_out (port_at (ports_of self.old) p)) }
-        ensures answer { result ≡ head? (port_at (ports_of self.old) p).buffers.waiting }
+            slice_set (ports_of self.old) p.number (handed_out (port_at (ports_of self.old) p.number)) }
+        ensures answer { result ≡ head? (port_at (ports_of self.old) p.number).buffers.waiting }
     {
-        self.table[p as usize].hand_out()
+        self.table[p.number as usize].hand_out()
     }
 
-    pub(crate) fn is_out(&self, p: u8, number: u32) -> bool
-        requires { p < 16 }
-        ensures { result ≡ among number (port_at (ports_of self.now) p).buffers.out }
+    pub(crate) fn is_out(&self, p: PortNumber, number: u32) -> bool
+        ensures { result ≡ among number (port_at (ports_of self.now) p.number).buffers.out }
     {
-        self.table[p as usize].is_out(number)
+        self.table[p.number as usize].is_out(number)
     }
 
-    pub(crate) fn release(&mut self, p: u8, number: u32)
-        requires { p < 16 }
+    pub(crate) fn release(&mut self, p: PortNumber, number: u32)
         ensures { ports_of self.new ≡
-            slice_set (ports_of self.old) p (released (port_at (ports_of self.old) p) number) }
+            slice_set (ports_of self.old) p.number (released (port_at (ports_of self.old) p.number) number) }
     {
-        self.table[p as usize].release(number);
+        self.table[p.number as usize].release(number);
     }
 
-    pub(crate) fn figures(&self, p: u8) -> Figures
-        requires { p < 16 }
-        ensures { result ≡ figures_of (port_at (ports_of self.now) p) }
+    pub(crate) fn figures(&self, p: PortNumber) -> Figures
+        ensures { result ≡ figures_of (port_at (ports_of self.now) p.number) }
     {
-        self.table[p as usize].figures()
+        self.table[p.number as usize].figures()
     }
 }

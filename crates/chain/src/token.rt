@@ -1,8 +1,8 @@
 // A frame that was handed out at an end.
 ghost use Rattle.std.specs.Prelude.{◌≡◌};
 
-use model::End;
 use symbol::Frame;
+use symbol::end::End;
 
 // Its buffer stays held until the token is released. A token cannot be let go: it is released or written off.
 pub struct Token {

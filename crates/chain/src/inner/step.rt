@@ -1,114 +1,107 @@
 // A step of a chain.
-ghost use Rattle.std.specs.Prelude.{◌≡◌, ◌*◌, ◌<◌, ◌≤◌, MatchOption};
+ghost use Rattle.std.specs.Prelude.{◌≡◌, ◌*◌, ◌<◌, ◌≤◌, IfOk};
 ghost use Rattle.chain.specs.Acts.{Acted};
-ghost use Rattle.eventlog.specs.Sheet.{Sheet, logged};
 ghost use Rattle.chain.specs.Calls.{Step};
 ghost use Rattle.chain.specs.View.{chain_of};
-ghost use Rattle.model.specs.Chain.{drawn, each_port, freed_events, sends, source, step_bytes, step_refusal};
-ghost use Rattle.model.specs.Chain.{stepped, takes, ticked};
+ghost use Rattle.eventlog.specs.Sheet.{Logs};
+ghost use Rattle.model.specs.Chain.{answer, drawn, each_port, freed_events, is_end, sends, source, step_bytes};
+ghost use Rattle.model.specs.Chain.{step_refusal, stepped, takes, ticked};
 
 use super::Inner;
-use super::numbers::{behind, facing};
+use crate::numbers::PortNumber;
 use crate::write::write_taken;
 use bank::Bank;
 use eventlog::event::{Event, FrameKind, ItemKind};
-use eventlog::write::write_event;
+use eventlog::sheet::Sheet;
 use model::Refusal;
 use symbol::{Frame, Item, Note, Symbol};
 
 impl<B: Bank> Inner<B> {
     // Port p asks the direction that it takes from, and takes what that hands out.
-    fn take(&mut self, p: u8, sheet: &mut [u8], used: usize) -> usize
-        requires { p < 16 }
-        ensures { Acted (takes B.Bank.calls (chain_of B.Bank.model self.old) p) (sheet.old, used)
-            (chain_of B.Bank.model self.new) (sheet.new, result) }
+    fn take(&mut self, p: PortNumber, sheet: &mut Sheet<'_>)
+        ensures { Acted (takes B.Bank.calls (chain_of B.Bank.model self.old) p.number) sheet.old
+            (chain_of B.Bank.model self.new) sheet.new }
     {
-        let Some(item) = self.bank.take(facing(p)) else {
-            return used;
-        };
-        let good = self.ports.receive(p, item);
-        write_taken(sheet, used, p, item, good)
+        if let Some(item) = self.bank.take(p.facing().number) {
+            let good = self.ports.receive(p, item);
+            write_taken(sheet, p.number, item, good);
+        }
+    }
+
+    fn is_end(&self, p: PortNumber) -> bool
+        ensures { result ≡ is_end self.now.links p.number }
+    {
+        p.number == 0 || p.number == self.last_port().number
     }
 
     // The oldest frame that waits for port p.
-    fn source(&self, p: u8) -> Option<Frame>
-        requires { p < 2 * self.now.links }
-        ensures { result ≡ source B.Bank.calls (chain_of B.Bank.model self.now) p }
+    fn source(&self, p: PortNumber) -> Option<Frame>
+        requires { p.number < 2 * self.now.links }
+        ensures { result ≡ source B.Bank.calls (chain_of B.Bank.model self.now) p.number }
     {
-        if p == 0 || p == self.last_port() {
+        if self.is_end(p) {
             self.ports.oldest_injected(p)
         } else {
-            self.ports.oldest_held(behind(p))
+            self.ports.oldest_held(p.behind())
         }
     }
 
     // A frame that port p has sent leaves the place where it waited.
-    fn draw(&mut self, p: u8, symbol: Symbol, sheet: &mut [u8], used: usize) -> usize
-        requires { p < 2 * self.old.links }
+    fn draw(&mut self, p: PortNumber, symbol: Symbol, sheet: &mut Sheet<'_>)
+        requires { p.number < 2 * self.old.links }
         ensures state { chain_of B.Bank.model self.new ≡
-            drawn B.Bank.calls (chain_of B.Bank.model self.old) p symbol }
-        ensures sheet { ◌≡◌ {A = Sheet} (sheet.new, result)
-            (logged (sheet.old, used) (freed_events self.old.links p symbol)) }
+            drawn B.Bank.calls (chain_of B.Bank.model self.old) p.number symbol }
+        ensures log { Logs sheet.old (freed_events self.old.links p.number symbol) sheet.new }
     {
         let Symbol::Frame(frame) = symbol else {
-            return used;
+            return;
         };
-        if p == 0 || p == self.last_port() {
+        if self.is_end(p) {
             self.ports.drop_oldest(p);
-            used
         } else {
-            self.ports.free_oldest(behind(p));
-            write_event(
-                sheet,
-                used,
-                Event::Frame(FrameKind::Freed, behind(p), frame),
-            )
+            let behind = p.behind();
+            self.ports.free_oldest(behind);
+            sheet.write(Event::Frame(FrameKind::Freed, behind.number, frame));
         }
     }
 
     // Port p sends at most one symbol.
-    fn send(&mut self, p: u8, sheet: &mut [u8], used: usize) -> usize
-        requires { p < 2 * self.old.links }
-        ensures { Acted (sends B.Bank.calls (chain_of B.Bank.model self.old) p) (sheet.old, used)
-            (chain_of B.Bank.model self.new) (sheet.new, result) }
+    fn send(&mut self, p: PortNumber, sheet: &mut Sheet<'_>)
+        requires { p.number < 2 * self.old.links }
+        ensures { Acted (sends B.Bank.calls (chain_of B.Bank.model self.old) p.number) sheet.old
+            (chain_of B.Bank.model self.new) sheet.new }
     {
-        if !self.bank.has_space(p) {
-            return used;
+        if !self.bank.has_space(p.number) {
+            return;
         }
         let waiting = self.source(p);
         let Some(symbol) = self.ports.send(p, waiting) else {
-            return used;
+            return;
         };
         let note = Note::Sound;
-        let _ = self.bank.put(p, Item { symbol, note });
-        let put = write_event(sheet, used, Event::Item(ItemKind::Put, p, symbol));
-        self.draw(p, symbol, sheet, put)
+        let _ = self.bank.put(p.number, Item { symbol, note });
+        sheet.write(Event::Item(ItemKind::Put, p.number, symbol));
+        self.draw(p, symbol, sheet);
     }
 
     // Each port in rising order takes.
-    fn take_all(&mut self, sheet: &mut [u8], used: usize) -> usize
-        ensures { Acted
-            (each_port (takes B.Bank.calls) (2 * self.old.links) (chain_of B.Bank.model self.old))
-            (sheet.old, used) (chain_of B.Bank.model self.new) (sheet.new, result) }
+    fn take_all(&mut self, sheet: &mut Sheet<'_>)
+        ensures { Acted (each_port (takes B.Bank.calls) (2 * self.old.links) (chain_of B.Bank.model self.old))
+            sheet.old (chain_of B.Bank.model self.new) sheet.new }
     {
-        let mut at = used;
-        for p in 0..2 * self.links {
-            at = self.take(p, sheet, at);
+        for number in 0..2 * self.links {
+            self.take(PortNumber { number }, sheet);
         }
-        at
     }
 
     // Each port in rising order sends.
-    fn send_all(&mut self, sheet: &mut [u8], used: usize) -> usize
-        ensures { Acted
-            (each_port (sends B.Bank.calls) (2 * self.old.links) (chain_of B.Bank.model self.old))
-            (sheet.old, used) (chain_of B.Bank.model self.new) (sheet.new, result) }
+    fn send_all(&mut self, sheet: &mut Sheet<'_>)
+        ensures { Acted (each_port (sends B.Bank.calls) (2 * self.old.links) (chain_of B.Bank.model self.old))
+            sheet.old (chain_of B.Bank.model self.new) sheet.new }
     {
-        let mut at = used;
-        for p in 0..2 * self.links {
-            at = self.send(p, sheet, at);
+        for number in 0..2 * self.links {
+            self.send(PortNumber { number }, sheet);
         }
-        at
     }
 
     // The tick rises, and the bank steps.
@@ -122,44 +115,41 @@ impl<B: Bank> Inner<B> {
     }
 
     // A step that nothing refuses.
-    pub(crate) fn step_all(&mut self, sheet: &mut [u8], used: usize) -> usize
+    pub(crate) fn step_all(&mut self, sheet: &mut Sheet<'_>)
         requires { self.old.tick < 16777215 }
-        ensures { Acted (stepped B.Bank.calls (chain_of B.Bank.model self.old)) (sheet.old, used)
-            (chain_of B.Bank.model self.new) (sheet.new, result) }
+        ensures { Acted (stepped B.Bank.calls (chain_of B.Bank.model self.old)) sheet.old
+            (chain_of B.Bank.model self.new) sheet.new }
     {
         self.next_tick();
-        let ticked = write_event(sheet, used, Event::Tick(self.tick));
-        let taken = self.take_all(sheet, ticked);
-        self.send_all(sheet, taken)
+        sheet.write(Event::Tick(self.tick));
+        self.take_all(sheet);
+        self.send_all(sheet);
     }
-}
 
-impl<B: Bank> Inner<B> {
-    // Why a step is refused, with so many bytes left.
-    fn step_refusal(&self, room: usize) -> Option<Refusal>
-        ensures value { result ≡ step_refusal B.Bank.calls (chain_of B.Bank.model self.now) room }
-        ensures open { MatchOption result
-            ((self.now.tick < 16777215) × (step_bytes self.now.links ≤ room)) (λ _. Unit {0}) }
+    // Whether a step is refused, with so many bytes left.
+    fn check_step(&self, room: usize) -> Result<(), Refusal>
+        ensures value { result ≡ answer (step_refusal B.Bank.calls (chain_of B.Bank.model self.now) room) tt }
+        ensures early { IfOk result (λ _. self.now.tick < 16777215) }
+        ensures fits { IfOk result (λ _. step_bytes self.now.links ≤ room) }
     {
         if self.links == 0 {
-            return Some(Refusal::NoLinks);
+            return Err(Refusal::NoLinks);
         }
         if self.tick == 16_777_215 {
-            return Some(Refusal::LastTick);
+            return Err(Refusal::LastTick);
         }
         if room < 6 + 50 * self.links as usize {
-            return Some(Refusal::SheetFull);
+            return Err(Refusal::SheetFull);
         }
-        None
+        Ok(())
     }
 
-    pub(crate) fn step(&mut self, sheet: &mut [u8], used: usize) -> Result<usize, Refusal>
-        ensures { Step B.Bank.calls (chain_of B.Bank.model self.old) sheet.old used
+    pub(crate) fn step(&mut self, sheet: &mut Sheet<'_>) -> Result<(), Refusal>
+        ensures { Step B.Bank.calls (chain_of B.Bank.model self.old) sheet.old
             (chain_of B.Bank.model self.new) sheet.new result }
     {
-        if let Some(refusal) = self.step_refusal(sheet.len().saturating_sub(used)) {
-            return Err(refusal);
-        }
-        Ok(self.step_all(sheet, used))
+        self.check_step(sheet.room())?;
+        self.step_all(sheet);
+        Ok(())
     }
 }

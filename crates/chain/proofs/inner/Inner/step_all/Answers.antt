@@ -1,6 +1,7 @@
-use Rattle.std.proofs.Common.{[], ◌∷◌, ap, ◌∙◌}
-use Rattle.eventlog.specs.Sheet.{Sheet, logged}
+use Rattle.std.proofs.Common.{[], ◌∷◌, subst}
+use Rattle.eventlog.specs.Sheet.{Logs}
 use Rattle.eventlog.specs.declared.event.Event.TheVariants.{Tick}
+use Rattle.model.specs.Chain.{Chain}
 use Rattle.chain.specs.View.{chain_of}
 use Rattle.chain.proofs.Acts.{step_acted}
 use Rattle.chain.proofs.inner.Inner.step_all.Goals as goal
@@ -8,13 +9,9 @@ use Rattle.chain.proofs.inner.Inner.step_all.Goals as goal
 pub returns : goal.returns
 returns g c =
     let view = chain_of g.B.Bank.model in
-    let start : Sheet = (c.args.sheet.now, c.args.used) in
-    step_acted g.B.Bank.calls (view c.args.self.now) (view c.next_tick.new.self)
-    (view c.take_all-taken.new.self) (view c.send_all.new.self) start
-    (c.write_event-ticked.new.sheet, c.write_event-ticked.result)
-    (c.take_all-taken.new.sheet, c.take_all-taken.result) (c.send_all.new.sheet, c.send_all.result)
-    (record {
-      state = c.next_tick.ensures;
-      sheet = c.write_event-ticked.ensures ∙ ap (λ w. logged start (Tick w.tick ∷ [])) c.next_tick.ensures;
-    })
-    c.take_all-taken.ensures c.send_all.ensures
+    let start = c.args.sheet.now in
+    let P : Chain g.B.Bank.Model → Type 0 = λ w. Logs start (Tick w.tick ∷ []) c.write.new.self in
+    step_acted g.B.Bank.calls (view c.args.self.now) (view c.next_tick.new.self) (view c.take_all.new.self)
+    (view c.send_all.new.self) start c.write.new.self c.take_all.new.sheet c.send_all.new.sheet
+    (record { state = c.next_tick.ensures; log = subst P c.next_tick.ensures c.write.ensures })
+    c.take_all.ensures c.send_all.ensures

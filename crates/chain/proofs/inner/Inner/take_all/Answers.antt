@@ -3,13 +3,12 @@ use Rattle.chain.specs.View.{chain_of}
 use Rattle.chain.proofs.Acts.{acted_none, each_more}
 use Rattle.chain.proofs.inner.Inner.take_all.Goals as goal
 
-pub loop-p-init : goal.loop-p-init
-loop-p-init g c = acted_none (chain_of g.B.Bank.model c.args.self.now) (c.args.sheet.now, c.args.used)
+pub loop-number-init : goal.loop-number-init
+loop-number-init g c = acted_none (chain_of g.B.Bank.model c.args.self.now) c.args.sheet.now
 
-pub loop-p-preserved : goal.loop-p-preserved
-loop-p-preserved g c =
+pub loop-number-preserved : goal.loop-number-preserved
+loop-number-preserved g c =
     let view = chain_of g.B.Bank.model in
-    each_more (takes g.B.Bank.calls) (view c.args.self.now) (view c.loop-p.self)
-    (view c.take-at.new.self)
-    (c.args.sheet.now, c.args.used) (c.loop-p.sheet, c.loop-p.at) (c.take-at.new.sheet, c.take-at.result)
-    c.loop-p.p c.loop-p.invariant c.take-at.ensures
+    each_more (takes g.B.Bank.calls) (view c.args.self.now) (view c.loop-number.self) (view c.take.new.self)
+    c.args.sheet.now c.loop-number.sheet c.take.new.sheet c.loop-number.number
+    c.loop-number.invariant c.take.ensures

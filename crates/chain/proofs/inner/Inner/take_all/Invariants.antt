@@ -3,7 +3,8 @@ use Rattle.chain.specs.Acts.{Acted}
 use Rattle.chain.specs.View.{chain_of}
 use Rattle.chain.proofs.inner.Inner.take_all.Given as goal
 
--- the ports below p have had their turn
-abbrev pub invariant-loop-p : goal.invariant-loop-p
-invariant-loop-p g l = Acted (each_port (takes g.B.Bank.calls) l.p (chain_of g.B.Bank.model l.initial.self))
-    (l.initial.sheet, l.initial.at) (chain_of g.B.Bank.model l.self) (l.sheet, l.at)
+-- the ports below this number have had their turn
+abbrev pub invariant-loop-number : goal.invariant-loop-number
+invariant-loop-number g l =
+    Acted (each_port (takes g.B.Bank.calls) l.number (chain_of g.B.Bank.model l.initial.self)) l.initial.sheet
+    (chain_of g.B.Bank.model l.self) l.sheet

@@ -1,5 +1,5 @@
 use Rattle.model.proofs.Laws.{inject_continues}
-use Rattle.chain.specs.Calls.{room}
+use Rattle.eventlog.specs.Sheet.{room}
 use Rattle.chain.specs.View.{chain_of}
 use Rattle.chain.proofs.running.Chain+B+Running.inject.Goals as goal
 
@@ -10,6 +10,6 @@ returns g c =
       call = c.inject.ensures;
       run =
           inject_continues g.B.Bank.calls g.met.B.Bank.lawful (view c.args.self.now.inner)
-          (view c.inject.new.self) c.args.end (room c.args.sheet.now c.args.used)
+          (view c.inject.new.self) c.args.end (room c.args.sheet.now)
           c.inject.ensures.state;
     }

@@ -1,5 +1,5 @@
 use Rattle.model.proofs.Laws.{collect_continues}
-use Rattle.chain.specs.Calls.{room}
+use Rattle.eventlog.specs.Sheet.{room}
 use Rattle.chain.specs.View.{chain_of}
 use Rattle.chain.proofs.states.Chain.collect.Goals as goal
 
@@ -11,5 +11,5 @@ returns g c =
       run =
           collect_continues g.B.Bank.calls g.met.B.Bank.lawful g.S.Moving.moving
           (view c.args.self.now.inner) (view c.collect.new.self) c.args.end
-          (room c.args.sheet.now c.args.used) c.collect.ensures.state;
+          (room c.args.sheet.now) c.collect.ensures.state;
     }

@@ -1,5 +1,5 @@
 use Rattle.model.proofs.Laws.{release_continues}
-use Rattle.chain.specs.Calls.{room}
+use Rattle.eventlog.specs.Sheet.{room}
 use Rattle.chain.specs.View.{chain_of}
 use Rattle.chain.proofs.states.Chain.release.Goals as goal
 
@@ -11,5 +11,5 @@ returns g c =
       run =
           release_continues g.B.Bank.calls g.met.B.Bank.lawful g.S.Moving.moving
           (view c.args.self.now.inner) (view c.release.new.self) c.args.token.end
-          c.args.token.frame.number (room c.args.sheet.now c.args.used) c.release.ensures.state;
+          c.args.token.frame.number (room c.args.sheet.now) c.release.ensures.state;
     }

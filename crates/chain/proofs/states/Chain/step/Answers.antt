@@ -1,5 +1,5 @@
 use Rattle.model.proofs.Laws.{step_continues}
-use Rattle.chain.specs.Calls.{room}
+use Rattle.eventlog.specs.Sheet.{room}
 use Rattle.chain.specs.View.{chain_of}
 use Rattle.chain.proofs.states.Chain.step.Goals as goal
 
@@ -10,6 +10,6 @@ returns g c =
       call = c.step.ensures;
       run =
           step_continues g.B.Bank.calls g.met.B.Bank.lawful g.S.Moving.moving
-          (view c.args.self.now.inner) (view c.step.new.self) (room c.args.sheet.now c.args.used)
+          (view c.args.self.now.inner) (view c.step.new.self) (room c.args.sheet.now)
           c.step.ensures.state;
     }
