@@ -30,11 +30,7 @@ impl<C: Channel> Bank for One<C> {
     }
 
     fn put(&mut self, number: u8, item: Item) -> bool {
-        if number == 0 {
-            self.channel.put(item)
-        } else {
-            false
-        }
+        number == 0 && self.channel.put(item)
     }
 
     fn take(&mut self, number: u8) -> Option<Item> {
@@ -50,18 +46,10 @@ impl<C: Channel> Bank for One<C> {
     }
 
     fn has_space(&self, number: u8) -> bool {
-        if number == 0 {
-            self.channel.has_space()
-        } else {
-            false
-        }
+        number == 0 && self.channel.has_space()
     }
 
     fn is_idle(&self, number: u8) -> bool {
-        if number == 0 {
-            self.channel.is_idle()
-        } else {
-            true
-        }
+        number != 0 || self.channel.is_idle()
     }
 }

@@ -9,7 +9,7 @@ use crate::Bank;
 use symbol::Item;
 
 // No number from here on reaches a channel.
-const MOST: u8 = 255;
+const MOST: u8 = u8::MAX;
 
 #[derive(Drop)]
 pub struct Pair<P, Q> {

@@ -37,10 +37,7 @@ fn sent<T: Channel>(channel: &mut T, symbol: Symbol) -> Option<Note> {
         note: Note::Sound,
     });
     channel.step();
-    match channel.take() {
-        Some(item) => Some(item.note),
-        None => None,
-    }
+    channel.take().map(|item| item.note)
 }
 
 fn lossy_wire(kind: SymbolKind, entries: &[(u32, u32)]) -> ScriptedLoss<Wire> {

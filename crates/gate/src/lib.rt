@@ -86,9 +86,6 @@ impl Channel for Gate {
     }
 
     fn is_idle(&self) -> bool {
-        match self.passage {
-            Passage::Free => true,
-            _ => false,
-        }
+        matches!(self.passage, Passage::Free)
     }
 }

@@ -1,5 +1,6 @@
 -- The banks of one link and of three: wires, and delay rings of 5 in the middle, all under scripted loss.
-use Rattle.std.specs.Prelude.{ℕ, List, [], ◌∷◌, map}
+use Rattle.std.specs.List.{range_with_len}
+use Rattle.std.specs.Prelude.{ℕ, List, [], map}
 use Rattle.symbol.specs.declared.Item.{Item}
 use Rattle.channel.specs.Calls.{Calls}
 use Rattle.channel.specs.Delay.{Delayed, delay_ring}
@@ -74,6 +75,6 @@ lossy_one_link s = lossy_wires (s 0) (s 1)
 abbrev pub lossy_three_links : (ℕ → List LossEntry) → WireStates × (RingStates × WireStates)
 lossy_three_links s = (lossy_wires (s 0) (s 1), (lossy_rings (s 2) (s 3), lossy_wires (s 4) (s 5)))
 
--- the count of a bank, and the letters at its first six numbers
-abbrev pub six_letters : {B : Type 0} → BankCalls B → B → ℕ × List ℕ
-six_letters m b = both (count m b) (map (letter_at m b) (0 ∷ 1 ∷ 2 ∷ 3 ∷ 4 ∷ 5 ∷ []))
+-- the count of a bank, and the letters at its first n numbers
+abbrev pub first_letters : {B : Type 0} → BankCalls B → B → ℕ → ℕ × List ℕ
+first_letters m b n = both (count m b) (map (letter_at m b) (range_with_len 0 n))

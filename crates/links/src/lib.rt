@@ -3,11 +3,10 @@
 
 ghost use Rattle.bank.specs.Bank.{AllIdle};
 ghost use Rattle.bank.specs.States.{both};
-ghost use Rattle.links.specs.Links.{link_state, one_link, one_link_state, ring_link_state};
-ghost use Rattle.links.specs.Links.{lossy_one_link, lossy_rings, lossy_three_links, lossy_wires};
+ghost use Rattle.links.specs.Links.{link_state, one_link, one_link_state};
+ghost use Rattle.links.specs.Links.{lossy_one_link, lossy_three_links};
 ghost use Rattle.links.specs.Links.{three_links, three_links_state, three_state};
 ghost use Rattle.links.specs.Losses.{losses_state, script_at};
-ghost use Rattle.loss.specs.States.{script_state};
 ghost use Rattle.std.specs.Prelude.{◌≡◌, [], ◌∷◌};
 
 pub mod losses;
@@ -20,7 +19,6 @@ use channel::Channel;
 use channel::delay::DelayRing;
 use channel::wire::Wire;
 use loss::ScriptedLoss;
-use loss::script::LossScript;
 use losses::Losses;
 
 pub type LossyWire = ScriptedLoss<Wire>;
@@ -43,24 +41,6 @@ fn link<C: Channel>(east: C, west: C) -> Link<C>
     Pair::new(One { channel: east }, One { channel: west })
 }
 
-fn wire_link(east: LossScript, west: LossScript) -> Link<LossyWire>
-    ensures { one_link_state result ≡ lossy_wires (script_state east) (script_state west) }
-{
-    link(
-        ScriptedLoss::new(Wire::new(), east),
-        ScriptedLoss::new(Wire::new(), west),
-    )
-}
-
-fn ring_link(east: LossScript, west: LossScript) -> Link<LossyRing>
-    ensures { ring_link_state result ≡ lossy_rings (script_state east) (script_state west) }
-{
-    link(
-        ScriptedLoss::new(DelayRing::new(DELAY), east),
-        ScriptedLoss::new(DelayRing::new(DELAY), west),
-    )
-}
-
 // Three banks, the westernmost one's numbers first.
 fn three<P: Bank, Q: Bank, R: Bank>(west: P, middle: Q, east: R) -> Pair<P, Pair<Q, R>>
     ensures { three_state P.Bank.model Q.Bank.model R.Bank.model result
@@ -75,9 +55,10 @@ pub fn one_link(losses: &Losses) -> OneLink
     ensures letters { one_link.letters (one_link_state result) ≡ 119 ∷ 119 ∷ [] }
     ensures idle { AllIdle one_link (one_link_state result) }
 {
-    let east = losses.script(0);
-    let west = losses.script(1);
-    wire_link(east, west)
+    let wire = |direction: u8| ScriptedLoss::new(Wire::new(), losses.script(direction));
+    let east = wire(0);
+    let west = wire(1);
+    link(east, west)
 }
 
 // A link of wires, one of delay rings, and one of wires.
@@ -86,9 +67,11 @@ pub fn three_links(losses: &Losses) -> ThreeLinks
     ensures letters { three_links.letters (three_links_state result) ≡ 119 ∷ 119 ∷ 100 ∷ 100 ∷ 119 ∷ 119 ∷ [] }
     ensures idle { AllIdle three_links (three_links_state result) }
 {
+    let wire = |direction: u8| ScriptedLoss::new(Wire::new(), losses.script(direction));
+    let ring = |direction: u8| ScriptedLoss::new(DelayRing::new(DELAY), losses.script(direction));
     three(
-        wire_link(losses.script(0), losses.script(1)),
-        ring_link(losses.script(2), losses.script(3)),
-        wire_link(losses.script(4), losses.script(5)),
+        link(wire(0), wire(1)),
+        link(ring(2), ring(3)),
+        link(wire(4), wire(5)),
     )
 }

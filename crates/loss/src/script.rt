@@ -5,7 +5,6 @@ ghost use Rattle.ring.specs.Queue.{pushed};
 ghost use Rattle.std.specs.Prelude.{◌≡◌, [], length, nat_lt};
 
 use ring::Ring;
-use ring::each::Test;
 use symbol::SymbolKind;
 
 const ENTRIES: usize = 16;
@@ -18,30 +17,21 @@ pub struct LossEntry {
     pub count: u32,
 }
 
+impl LossEntry {
+    // The difference is compared, since `first + count` may not fit.
+    fn covers(self, kind: SymbolKind, number: u32) -> bool
+        ensures { result ≡ covers self kind number }
+    {
+        self.kind == kind && self.first <= number && number - self.first < self.count
+    }
+}
+
 // What stands at a place that no entry uses.
 const BLANK: LossEntry = LossEntry {
     kind: SymbolKind::RRdy,
     first: 0,
     count: 0,
 };
-
-// A put, by its kind and its number among the puts of that kind.
-#[derive(Clone, Copy)]
-struct Turn {
-    kind: SymbolKind,
-    number: u32,
-}
-
-impl Test<LossEntry> for Turn {
-    ghost passes = { λ t e. covers e t.kind t.number };
-
-    // The difference is compared, since `first + count` may not fit.
-    fn passes(&self, entry: LossEntry) -> bool {
-        entry.kind.letter() == self.kind.letter()
-            && entry.first <= self.number
-            && self.number - entry.first < entry.count
-    }
-}
 
 #[derive(Clone, Copy)]
 pub struct LossScript {
@@ -71,6 +61,6 @@ impl LossScript {
     pub fn names(&self, kind: SymbolKind, number: u32) -> bool
         ensures { result ≡ names (script_state self.now) kind number }
     {
-        self.entries.any(&Turn { kind, number })
+        self.entries.any(|entry| entry.covers(kind, number))
     }
 }

@@ -1,9 +1,9 @@
 -- What a ring holds, by its places: its fields keep what the lemmas on windows ask.
 use Rattle.std.proofs.Common.{◌≡◌, ℕ, ◌+◌, ◌-◌, ◌<◌, ◌≤◌, Bool, ◌||◌, List, [], ◌∷◌, ◌++◌, map, length, get_or, take}
-use Rattle.std.proofs.Common.{drop, set, Some, sym, ap, ◌∙◌, arith}
-use Rattle.std.specs.List.{slice_get}
+use Rattle.std.proofs.Common.{drop, set, Some, refl, sym, ap, ◌∙◌, arith}
+use Rattle.std.specs.List.{list_any, slice_get}
 use Rattle.std.proofs.lemmas.List.Edits.{map_over_more}
-use Rattle.std.proofs.lemmas.List.{at_drop_more, take_all, drop_all, append-nil}
+use Rattle.std.proofs.lemmas.List.{take_all, drop_all, append-nil}
 use Rattle.std.proofs.lemmas.Option.{slice_get-get_or}
 use Rattle.ring.specs.Contents.{contents, place, window}
 use Rattle.ring.specs.Queue.{any, tail}
@@ -42,13 +42,6 @@ module _ {T : Type 0} {n : ℕ} (r : Ring T n) (k at : ℕ) (x : T) (l : k < r.l
   pub ring_nth : slice_get (contents r) k ≡ Some (get_or r.places at x)
   ring_nth = slice_get-get_or (contents r) k x (omega (arith, ring_length r)) ∙ ap (λ y. Some y) (ring_at r k at x l e)
 
-  -- a search of the values, one further
-  pub any_more : (p : T → Bool) (b : Bool) → b ≡ p (get_or r.places at x) →
-      any p (drop k (contents r)) ≡ (b || any p (drop (k + 1) (contents r)))
-  any_more p b is =
-      at_drop_more (any p) (contents r) k x (omega (arith, ring_length r))
-      ∙ ap (λ c. c || any p (drop (k + 1) (contents r))) (ap p (ring_at r k at x l e) ∙ sym is)
-
   -- a pass over the values, one further
   pub mapped_more : (f : T → T) (old : List T) (y : T) → length old ≡ r.len
       → contents r ≡ map f (take k old) ++ drop k old →
@@ -65,3 +58,7 @@ mapped_all f k old l =
     ap (λ xs. map f xs ++ drop k old) (take_all k old l)
     ∙ ap (λ ys. map f old ++ ys) (drop_all k old l)
     ∙ append-nil (map f old)
+
+pub any_same : {X : Type 0} (p : X → Bool) (xs : List X) → list_any p xs ≡ any p xs
+any_same p [] = refl
+any_same p (x ∷ xs) = ap (λ b. p x || b) (any_same p xs)

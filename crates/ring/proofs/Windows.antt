@@ -1,9 +1,10 @@
 -- A window of a list that is read as a ring, by its places.
 use Rattle.std.proofs.Common.{◌≡◌, ℕ, ◌+◌, ◌-◌, ◌<◌, ◌≤◌, ltb, ◌≢◌, List, [], ◌∷◌, ◌++◌, length, get_or, drop, set, sym}
-use Rattle.std.proofs.Common.{refl, ap, ◌∙◌, ⊎_elim, arith}
+use Rattle.std.proofs.Common.{refl, ap, ap₂, ◌∙◌, ⊎_elim, min, take, arith}
+use Rattle.std.proofs.Math.Seq.{take-append-add}
 use Rattle.std.proofs.lemmas.List.{get_or-take, get_or-drop, get_or_append_left, get_or-append_right, get_or-set_same}
 use Rattle.std.proofs.lemmas.List.{get_or-set_other, length-take, length-drop, length-append, length-set, same_lists}
-use Rattle.std.proofs.lemmas.List.{take_all, take-take, take_more_set}
+use Rattle.std.proofs.lemmas.List.{take_all, take-take, take_more_set, take-append-le, drop-append-le, append-nil}
 use Rattle.std.proofs.lemmas.Bool.{cases_lt, cases_eq, lt-ltb, le-ltb, cond-true, cond-false}
 use Rattle.std.proofs.lemmas.Bool.Decides.{nat_tests}
 use Rattle.ring.specs.Contents.{window, place}
@@ -115,3 +116,29 @@ module _ {X : Type 0} (xs : List X) (cap h : ℕ) (long : length xs ≡ cap) (wi
           ∙ ap (λ i. get_or xs i d) (place_next cap h k within (omega arith))
           ∙ sym (window_at xs cap h long within n (1 + k) d b (omega arith))
           ∙ sym (get_or-drop 1 (window xs h n) k d)
+
+  -- the values up to the end of the list, and then those from its start on
+  pub window_halves : (n k : ℕ) → n ≤ cap → k ≡ min n (cap - h) →
+      take k (drop h xs) ++ take (n - k) (take h xs) ≡ window xs h n
+  window_halves n k b e =
+      ap (λ ys. take k (drop h xs) ++ ys) (take-take (n - k) h xs (omega arith))
+      ∙ ⊎_elim wrapped whole (cases_lt (cap - h) n)
+      ∙ ap (take n) (sym (drop-append-le h xs xs (omega arith)))
+    where
+      size : length (drop h xs) ≡ cap - h
+      size = omega (arith, length-drop h xs)
+
+      whole : n ≤ cap - h → take k (drop h xs) ++ take (n - k) xs ≡ take n (drop h xs ++ xs)
+      whole l =
+          let all : k ≡ n = omega arith in
+          let none : n - k ≡ 0 = omega arith in
+          ap₂ (λ i j. take i (drop h xs) ++ take j xs) all none
+          ∙ append-nil (take n (drop h xs))
+          ∙ sym (take-append-le n (drop h xs) xs (omega (arith, size)))
+
+      wrapped : cap - h < n → take k (drop h xs) ++ take (n - k) xs ≡ take n (drop h xs ++ xs)
+      wrapped l =
+          let more : length (drop h xs) + (n - k) ≡ n = omega (arith, size) in
+          ap (λ ys. ys ++ take (n - k) xs) (take_all k (drop h xs) (omega (arith, size)))
+          ∙ sym (take-append-add (drop h xs) xs (n - k))
+          ∙ ap (λ i. take i (drop h xs ++ xs)) more

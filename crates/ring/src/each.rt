@@ -2,7 +2,7 @@
 ghost use Rattle.ring.specs.Contents.{contents};
 ghost use Rattle.ring.specs.Closures.{Computes};
 ghost use Rattle.ring.specs.Queue.{any};
-ghost use Rattle.std.specs.Prelude.{◌≡◌, Bool, filter, map};
+ghost use Rattle.std.specs.Prelude.{◌≡◌, Bool, ◌++◌, filter, map};
 
 use super::Ring;
 
@@ -12,10 +12,21 @@ impl<T: Copy, const N: usize> Ring<T, N> {
         requires { F.IsAlwaysCallable change }
         ensures { (f : T → T) → Computes F.Fn change f → contents self.new ≡ map f (contents self.old) }
     {
+        // By index: a mutable slice for each end of the array would take a loop each.
         for i in 0..self.len {
             let at = self.place(i);
             self.places[at] = change(self.places[at]);
         }
+    }
+
+    // The values up to the end of the array, and then those from its start on.
+    fn as_slices(&self) -> (&[T], &[T])
+        ensures { result.0.now ++ result.1.now ≡ contents self.now }
+    {
+        let places = &self.places[..];
+        let (start, end) = places.split_at(self.head);
+        let front = self.len.min(end.len());
+        (&end[..front], &start[..self.len - front])
     }
 
     // Whether some value passes the test.
@@ -23,13 +34,8 @@ impl<T: Copy, const N: usize> Ring<T, N> {
         requires { F.IsAlwaysCallable test }
         ensures { (p : T → Bool) → Computes F.Fn test p → result ≡ any p (contents self.now) }
     {
-        for i in 0..self.len {
-            let at = self.place(i);
-            if test(self.places[at]) {
-                return true;
-            }
-        }
-        false
+        let (front, back) = self.as_slices();
+        front.iter().chain(back).any(|x| test(*x))
     }
 
     // Drops the values that are not to be kept; the others keep their order.

@@ -1,38 +1,17 @@
-use Rattle.std.proofs.Common.{◌&&◌, ltb, length, set, sym, ap, ◌∙◌, ap₂}
-use Rattle.std.proofs.lemmas.List.{map-set}
-use Rattle.std.proofs.lemmas.Bool.{lt-ltb, le-ltb}
+use Rattle.std.proofs.Common.{[], set, sym, ap, ◌∙◌, arith}
+use Rattle.std.proofs.lemmas.List.{get_or-map, map-set}
 use Rattle.loss.specs.Script.{entries_kept}
 use Rattle.loss.specs.States.{script_state}
 use Rattle.ring.specs.Queue.{pushed}
-use Rattle.links.specs.Losses.{directions_scripted, losses_state, script_at}
-use Rattle.links.proofs.Tables.{loss_nowhere}
+use Rattle.links.specs.Losses.{losses_state, with_loss}
 use Rattle.links.proofs.losses.Losses.add.Goals as goal
 
-pub returns : goal.returns
-returns c =
+pub returns-then-at-lt-DIRECTIONS-clause-state : goal.returns-then-at-lt-DIRECTIONS-clause-state
+returns-then-at-lt-DIRECTIONS-clause-state c =
     let l = c.args.self.now in
-    let d = c.args.direction in
-    let before = c.script-script.ensures in
-    record {
-      state =
-          map-set script_state l.scripts d c.add-kept.new.self
-          ∙ ap (set (losses_state l) d)
-          (c.add-kept.ensures.state ∙ ap (λ es. pushed entries_kept es c.args.entry) before);
-      answer =
-          c.add-kept.ensures.answer
-          ∙ ap₂ (λ b es. b && ltb (length es) entries_kept)
-          (sym (lt-ltb d directions_scripted c.if-at-ge-DIRECTIONS.false)) before;
-    }
-
-pub returns-then-at-ge-DIRECTIONS : goal.returns-then-at-ge-DIRECTIONS
-returns-then-at-ge-DIRECTIONS c =
-    let l = c.args.self.now in
-    let d = c.args.direction in
-    let past = c.if-at-ge-DIRECTIONS.true in
-    record {
-      state = sym (loss_nowhere l d c.args.entry past);
-      answer =
-          sym
-          (ap (λ b. b && ltb (length (script_at (losses_state l) d)) entries_kept)
-          (le-ltb d directions_scripted past));
-    }
+    let d = c.from-at.result in
+    let before = get_or-map script_state l.scripts d c.index-scripts-at.result [] (omega (arith, l.long)) in
+    map-set script_state l.scripts d _
+    ∙ ap (set (losses_state l) d)
+    (c.add.ensures.state ∙ ap (λ es. pushed entries_kept es c.args.entry) (sym before))
+    ∙ ap (λ k. with_loss (losses_state l) k c.args.entry) c.from-at.ensures

@@ -2,7 +2,7 @@ use Rattle.std.proofs.Common.{ap, ◌∙◌, arith}
 use Rattle.ring.specs.Contents.{contents}
 use Rattle.channel.specs.Timed.{within}
 use Rattle.channel.proofs.Waiting.{within_pushed}
-use Rattle.channel.proofs.delay.calls.DelayRingChannel.put.Goals as goal
+use Rattle.channel.proofs.delay.DelayRingChannel.put.Goals as goal
 
 pub invariant_of-self : goal.invariant_of-self
 invariant_of-self c =

@@ -1,0 +1,10 @@
+use Rattle.std.proofs.Common.{ap₂, rules}
+use Rattle.bank.specs.States.{both}
+use Rattle.bank.specs.Bank.{letter_at}
+use Rattle.links.proofs.Letters.{made}
+use Rattle.links.proofs.pins.letters.Goals as goal
+
+pub returns : goal.returns
+returns g c =
+    let b = g.B.Bank.model c.args.bank.now in
+    let m = made _ _ (letter_at g.B.Bank.calls b) g.row.N (λ i y q l k. search rules) c.from_fn.result 0 c.from_fn.ensures.items in ap₂ both c.count.ensures m
