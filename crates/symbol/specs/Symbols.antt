@@ -1,5 +1,6 @@
 -- The kinds of symbols, their letters, and an item that is noted lost.
-use Rattle.std.specs.Prelude.{◌≡◌, ℕ, cond, List, [], ◌∷◌, Some, None, Option, ◌==◌}
+use Rattle.std.specs.Prelude.{◌≡◌, ℕ, cond, List, [], ◌∷◌, Some, None, Option, Result, ◌==◌}
+use Rattle.std.specs.Option.{ok_or}
 use Rattle.symbol.specs.declared.Item.{Item}
 use Rattle.symbol.specs.declared.Mark.TheVariants.{BbScS, BbScR}
 use Rattle.symbol.specs.declared.Note.TheVariants.{Lost}
@@ -7,6 +8,7 @@ use Rattle.symbol.specs.declared.Symbol.{Symbol}
 use Rattle.symbol.specs.declared.Symbol.TheVariants as symbol
 use Rattle.symbol.specs.declared.SymbolKind.{SymbolKind}
 use Rattle.symbol.specs.declared.SymbolKind.TheVariants.{Frame, RRdy, Mark}
+use Rattle.symbol.specs.declared.UnknownLetter.{UnknownLetter}
 
 abbrev pub kind_of : Symbol → SymbolKind
 kind_of (symbol.Frame f) = Frame
@@ -36,6 +38,13 @@ abbrev pub LettersTellKinds : Type 0
 LettersTellKinds =
     ((k : SymbolKind) → kind_with (letter k) ≡ Some k)
     × ((l : ℕ) (k : SymbolKind) → kind_with l ≡ Some k → l ≡ letter k)
+
+abbrev pub unknown : ℕ → UnknownLetter
+unknown l = record { 0 = l }
+
+-- the kind with the letter, or an error that holds a letter which no kind has; and letters tell kinds
+abbrev pub KindRead : ℕ → Result SymbolKind UnknownLetter → Type 0
+KindRead l r = (r ≡ ok_or (kind_with l) (unknown l)) × LettersTellKinds
 
 -- the item, noted lost
 abbrev pub noted_lost : Item → Item

@@ -1,6 +1,8 @@
 // The two ends of a chain.
-ghost use Rattle.symbol.specs.Ends.{end_with};
+ghost use Rattle.symbol.specs.Ends.{EndRead, end_with};
 ghost use Rattle.std.specs.Prelude.{◌≡◌};
+
+use crate::UnknownLetter;
 
 #[derive(Clone, Copy, PartialEq, Eq, Debug)]
 pub enum End {
@@ -17,6 +19,21 @@ impl End {
             'w' => Some(End::West),
             'e' => Some(End::East),
             _ => None,
+        }
+    }
+}
+
+// The end that has this letter.
+impl TryFrom<char> for End {
+    type Error = UnknownLetter;
+
+    ghost try_from_gives = { EndRead };
+
+    fn try_from(letter: char) -> Result<Self, UnknownLetter> {
+        match letter {
+            'w' => Ok(End::West),
+            'e' => Ok(End::East),
+            _ => Err(UnknownLetter(letter)),
         }
     }
 }

@@ -1,7 +1,7 @@
 // What travels on a link.
 #![tactic(auto)]
 
-ghost use Rattle.symbol.specs.Symbols.{LettersTellKinds, kind_of, kind_with, letter, noted_lost};
+ghost use Rattle.symbol.specs.Symbols.{KindRead, LettersTellKinds, kind_of, kind_with, letter, noted_lost};
 ghost use Rattle.std.specs.Prelude.{◌≡◌};
 
 pub mod end;
@@ -84,6 +84,27 @@ impl SymbolKind {
             's' => Some(SymbolKind::Mark(Mark::BbScS)),
             'c' => Some(SymbolKind::Mark(Mark::BbScR)),
             _ => None,
+        }
+    }
+}
+
+// A letter that stands for nothing that was asked after.
+#[derive(Clone, Copy, PartialEq, Eq, Debug)]
+pub struct UnknownLetter(pub char);
+
+// The kind that has this letter.
+impl TryFrom<char> for SymbolKind {
+    type Error = UnknownLetter;
+
+    ghost try_from_gives = { KindRead };
+
+    fn try_from(letter: char) -> Result<Self, UnknownLetter> {
+        match letter {
+            'f' => Ok(SymbolKind::Frame),
+            'r' => Ok(SymbolKind::RRdy),
+            's' => Ok(SymbolKind::Mark(Mark::BbScS)),
+            'c' => Ok(SymbolKind::Mark(Mark::BbScR)),
+            _ => Err(UnknownLetter(letter)),
         }
     }
 }
