@@ -3,6 +3,7 @@ use Rattle.std.proofs.Common.{◌≡◌, ℕ, Bool, true, false, cond, ◌&&◌,
 use Rattle.std.proofs.Common.{Ok, Err, Option, Result, refl, subst}
 use Rattle.std.specs.Option.{ok_or}
 use Rattle.std.specs.List.{AllByRecursion}
+use Rattle.symbol.specs.Ends.{end_with}
 use Rattle.symbol.specs.Symbols.{kind_with}
 use Rattle.script.specs.declared.command.Command.{Command}
 use Rattle.script.specs.declared.command.Command.TheVariants.{Chain}
@@ -19,7 +20,7 @@ use Rattle.script.specs.declared.order.Progress.{Progress}
 use Rattle.script.specs.Arguments.{number_by, as_number, letter_by, as_letter, as_end, as_kind, within, below, rest}
 use Rattle.script.specs.Arguments.{taken, taken_number, chain_by, chain_of, login_of, lose_of, frames_of}
 use Rattle.script.specs.Arguments.{arguments_of}
-use Rattle.script.specs.Commands.{keyword_of, arity, end_with}
+use Rattle.script.specs.Commands.{keyword_of, arity}
 use Rattle.script.specs.Faults.{fault_at, fault, then}
 use Rattle.script.specs.Line.{command_by, command_of, ordered_by, ordered, read_tokens, read_line}
 use Rattle.script.specs.Order.{after}

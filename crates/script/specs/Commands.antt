@@ -1,12 +1,14 @@
 -- The words and letters of the commands.
-use Rattle.std.specs.Prelude.{ℕ, cond, List, Some, None, codes, Option, ◌==◌}
+use Rattle.std.specs.Prelude.{◌≡◌, ℕ, cond, List, Some, None, codes, Option, Result}
+use Rattle.std.specs.Borrow.{Bor}
+use Rattle.std.specs.Option.{ok_or}
 use Rattle.std.specs.Str.{bytes_eq}
-use Rattle.script.specs.declared.command.End.{End}
-use Rattle.script.specs.declared.command.End.TheVariants.{West, East}
 use Rattle.script.specs.declared.command.Keyword.{Keyword}
 use Rattle.script.specs.declared.command.Keyword.TheVariants as keyword
 use Rattle.script.specs.declared.command.Links.{Links}
 use Rattle.script.specs.declared.command.Links.TheVariants.{One, Three}
+use Rattle.script.specs.declared.fault.Refusal.{Refusal}
+use Rattle.script.specs.declared.fault.Refusal.TheVariants.{UnknownCommand}
 
 abbrev pub keyword_of : List ℕ → Option Keyword
 keyword_of bs =
@@ -19,6 +21,10 @@ keyword_of bs =
     (cond (bytes_eq bs (codes "drain")) (Some keyword.Drain)
     (cond (bytes_eq bs (codes "page")) (Some keyword.Page) None)))))))
 
+-- the keyword that a word is, or the refusal of a word that is none
+abbrev pub KeywordRead : Bor (List ℕ) → Result Keyword Refusal → Type 0
+KeywordRead text r = r ≡ ok_or (keyword_of text.now) UnknownCommand
+
 -- how many words follow
 abbrev pub arity : Keyword → ℕ
 arity keyword.Chain = 1
@@ -29,10 +35,6 @@ arity keyword.Collect = 2
 arity keyword.Step = 1
 arity keyword.Drain = 0
 arity keyword.Page = 0
-
--- w and e
-abbrev pub end_with : ℕ → Option End
-end_with l = cond (l == 119) (Some West) (cond (l == 101) (Some East) None)
 
 -- 2K
 abbrev pub directions_of : Links → ℕ
