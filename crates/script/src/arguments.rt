@@ -25,7 +25,7 @@ impl Number {
     fn within(self, low: u32, high: u32) -> Result<u32, Fault>
         ensures { result ≡ within low high self }
     {
-        if low <= self.value && self.value <= high {
+        if (low..=high).contains(&self.value) {
             return Ok(self.value);
         }
         Err(self.place.fault(Refusal::OutOfRange))
@@ -35,7 +35,7 @@ impl Number {
     fn below(self, limit: u8) -> Result<u8, Fault>
         ensures { result ≡ below limit self }
     {
-        if self.value < limit as u32 {
+        if self.value < u32::from(limit) {
             return Ok(self.value as u8);
         }
         Err(self.place.fault(Refusal::OutOfRange))
@@ -98,6 +98,7 @@ impl<'a> Arguments<'a> {
         ensures { result ≡ chain_of self.entry.head (left self.entry.tokens) }
     {
         let links = self.number()?;
+        // Links are read here alone: a TryFrom for two numbers would be longer by an error and a definition.
         match links.value {
             1 => Ok(Command::Chain(Links::One)),
             3 => Ok(Command::Chain(Links::Three)),
@@ -163,14 +164,12 @@ impl<'a> Arguments<'a> {
             Keyword::Chain => self.chain(),
             Keyword::Login => self.login(),
             Keyword::Lose => self.lose(directions),
-            Keyword::Inject => {
-                let (end, count) = self.frames()?;
-                Ok(Command::Inject { end, count })
-            }
-            Keyword::Collect => {
-                let (end, count) = self.frames()?;
-                Ok(Command::Collect { end, count })
-            }
+            Keyword::Inject => self
+                .frames()
+                .map(|(end, count)| Command::Inject { end, count }),
+            Keyword::Collect => self
+                .frames()
+                .map(|(end, count)| Command::Collect { end, count }),
             Keyword::Step => self.step(),
             Keyword::Drain => Ok(Command::Drain),
             Keyword::Page => Ok(Command::Page),
