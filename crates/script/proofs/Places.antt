@@ -26,7 +26,6 @@ use Rattle.script.specs.Line.{command_by, command_of, ordered_by, ordered, read_
 use Rattle.script.specs.Order.{after}
 use Rattle.script.specs.Text.{Word, words}
 use Rattle.script.specs.Tokens.{Kind, number, letter, other, Seen, placed, line_tokens}
-use Rattle.script.proofs.Never.{never}
 
 -- a fault on line k, or a result of which P holds
 abbrev On : {A : Type 0} → ℕ → (A → Type 0) → Result A Fault → Type 0
@@ -183,7 +182,7 @@ on_line k p bs =
     (on_tokens k p (line_tokens k bs) (all_placed k (words 1 bs)))
 
 told_by : (k : ℕ) (r : Result (Option Read) Fault) (f : Fault) → On k Any r → r ≡ Err f → f.place.line ≡ k
-told_by k (Ok x) f h e = never (cc)
+told_by k (Ok x) f h e = absurd (cc)
 told_by k (Err g) f h e = let same : g ≡ f = cc in subst (λ (x : Fault). x.place.line ≡ k) same h
 
 -- the line told with a fault is that of the line at fault

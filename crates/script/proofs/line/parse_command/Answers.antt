@@ -9,7 +9,6 @@ use Rattle.script.specs.declared.fault.Refusal.TheVariants.{UnknownCommand}
 use Rattle.script.specs.Commands.{keyword_of}
 use Rattle.script.specs.Text.{words}
 use Rattle.script.specs.Tokens.{left, seen}
-use Rattle.script.proofs.Never.{never}
 use Rattle.script.proofs.Words.{words_few, length-placed}
 use Rattle.script.proofs.line.parse_command.Goals as goal
 
@@ -23,7 +22,7 @@ count-requires-clause-fits c =
 -- the word's keyword, where the refusal of a word that is none was given its place
 known : (o : Option Keyword) (r : Result Keyword Refusal) (s : Result Keyword Fault) (k : Keyword) (Q : Refusal → Type 0)
     → r ≡ ok_or o UnknownCommand → MatchResult r (λ x. s ≡ Ok x) Q → is_ok s ≡ is_ok r → s ≡ Ok k → o ≡ Some k
-known None r s k Q read told same ok = let no = ap is_ok read in let yes = ap is_ok ok in never (cc)
+known None r s k Q read told same ok = let no = ap is_ok read in let yes = ap is_ok ok in absurd (cc)
 known (Some x) r s k Q read told same ok = let z = rw read at told in cc
 
 pub returns : goal.returns
