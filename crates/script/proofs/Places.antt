@@ -17,7 +17,7 @@ use Rattle.script.specs.declared.fault.Refusal.TheVariants.{LongLine, WordCount,
 use Rattle.script.specs.declared.arguments.Number.{Number}
 use Rattle.script.specs.declared.line.Read.{Read}
 use Rattle.script.specs.declared.order.Progress.{Progress}
-use Rattle.script.specs.Arguments.{number_by, as_number, letter_by, as_letter, as_end, as_kind, within, below, rest}
+use Rattle.script.specs.Arguments.{number_by, as_number, letter_by, as_letter, within, below, rest}
 use Rattle.script.specs.Arguments.{taken, taken_number, chain_by, chain_of, login_of, lose_of, frames_of}
 use Rattle.script.specs.Arguments.{arguments_of}
 use Rattle.script.specs.Commands.{keyword_of, arity}
@@ -127,7 +127,7 @@ module _ (k : ℕ) (head : Place) (at : head.line ≡ k) where
       with_number (rest (rest ts)) _ h2 (λ i e2.
       with_number (rest (rest (rest ts))) _ h3 (λ c e3.
       with_value (below ds d) _ (on_below ds d e) (λ direction.
-      with_value (as_kind l) _ (on_letter kind_with l e1) (λ kind.
+      with_value (as_letter kind_with l) _ (on_letter kind_with l e1) (λ kind.
       with_value (within 1 99999999 i) _ (on_within 1 99999999 i e2) (λ first.
       with_value (within 1 99999999 c) _ (on_within 1 99999999 c e3) (λ count. tt))))))))
 
@@ -135,7 +135,7 @@ module _ (k : ℕ) (head : Place) (at : head.line ≡ k) where
   on_frames ts h =
       with_token ts _ h (λ t e.
       with_number (rest ts) _ (on_rest ts h) (λ n e1.
-      with_value (as_end t) _ (on_letter end_with t e) (λ end.
+      with_value (as_letter end_with t) _ (on_letter end_with t e) (λ end.
       with_value (within 1 1000 n) _ (on_within 1 1000 n e1) (λ count. tt))))
 
   on_arguments : (w : Keyword) (ds : ℕ) (ts : List Seen) → AllByRecursion (TokenOn k) ts

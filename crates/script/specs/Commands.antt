@@ -1,14 +1,10 @@
--- The words and letters of the commands.
-use Rattle.std.specs.Prelude.{◌≡◌, ℕ, cond, List, Some, None, codes, Option, Result}
-use Rattle.std.specs.Borrow.{Bor}
-use Rattle.std.specs.Option.{ok_or}
+-- The words of the commands.
+use Rattle.std.specs.Prelude.{ℕ, cond, List, Some, None, codes, Option}
 use Rattle.std.specs.Str.{bytes_eq}
 use Rattle.script.specs.declared.command.Keyword.{Keyword}
 use Rattle.script.specs.declared.command.Keyword.TheVariants as keyword
 use Rattle.script.specs.declared.command.Links.{Links}
 use Rattle.script.specs.declared.command.Links.TheVariants.{One, Three}
-use Rattle.script.specs.declared.fault.Refusal.{Refusal}
-use Rattle.script.specs.declared.fault.Refusal.TheVariants.{UnknownCommand}
 
 abbrev pub keyword_of : List ℕ → Option Keyword
 keyword_of bs =
@@ -20,10 +16,6 @@ keyword_of bs =
     (cond (bytes_eq bs (codes "step")) (Some keyword.Step)
     (cond (bytes_eq bs (codes "drain")) (Some keyword.Drain)
     (cond (bytes_eq bs (codes "page")) (Some keyword.Page) None)))))))
-
--- the keyword that a word is, or the refusal of a word that is none
-abbrev pub KeywordRead : Bor (List ℕ) → Result Keyword Refusal → Type 0
-KeywordRead text r = r ≡ ok_or (keyword_of text.now) UnknownCommand
 
 -- how many words follow
 abbrev pub arity : Keyword → ℕ

@@ -1,5 +1,7 @@
 // The commands of a script.
-ghost use Rattle.script.specs.Commands.{KeywordRead, arity, directions_of};
+ghost use Rattle.script.specs.Commands.{arity, directions_of, keyword_of};
+ghost use Rattle.script.specs.declared.fault.Refusal.TheVariants.{UnknownCommand};
+ghost use Rattle.std.specs.Option.{ok_or};
 ghost use Rattle.std.specs.Prelude.{◌≡◌};
 
 use crate::fault::{Place, Refusal};
@@ -80,7 +82,7 @@ impl Links {
 impl TryFrom<&[u8]> for Keyword {
     type Error = Refusal;
 
-    ghost try_from_gives = { KeywordRead };
+    ghost try_from_gives = { λ text r. r ≡ ok_or (keyword_of text.now) UnknownCommand };
 
     fn try_from(text: &[u8]) -> Result<Self, Refusal> {
         match text {
