@@ -35,10 +35,10 @@ impl Number {
     fn below(self, limit: u8) -> Result<u8, Fault>
         ensures { result ≡ below limit self }
     {
-        if self.value < u32::from(limit) {
-            return Ok(self.value as u8);
+        match u8::try_from(self.value) {
+            Ok(value) if value < limit => Ok(value),
+            _ => Err(self.place.fault(Refusal::OutOfRange)),
         }
-        Err(self.place.fault(Refusal::OutOfRange))
     }
 }
 
