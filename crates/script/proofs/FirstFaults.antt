@@ -10,7 +10,6 @@ use Rattle.script.specs.Judged.{passed, FirstFault}
 use Rattle.script.specs.Line.{read_line}
 use Rattle.script.specs.Script.{commands_by, progress_by, commands_from}
 use Rattle.script.proofs.Places.{line_told}
-use Rattle.script.proofs.Never.{never}
 
 -- a line at fault is the first
 here : (n : ℕ) (p : Progress) (l : List ℕ) (ls : List (List ℕ)) (f : Fault) → read_line (n + 1) p l ≡ Err f
@@ -47,7 +46,7 @@ later_on n p l ls f x e h =
 
 by_fault : (x : Option Read) (r : Result (List Placed) Fault) (f : Fault) → commands_by x r ≡ Err f → r ≡ Err f
 by_fault None r f h = h
-by_fault (Some x) (Ok cs) f h = never (cc)
+by_fault (Some x) (Ok cs) f h = absurd (cc)
 by_fault (Some x) (Err e) f h = h
 
 first_fault_by : (n : ℕ) (p : Progress) (l : List ℕ) (ls : List (List ℕ)) (f : Fault) (r : Result (Option Read) Fault)
@@ -59,6 +58,6 @@ first_fault_by n p l ls f (Ok x) is h more =
 
 pub first_fault : (n : ℕ) (p : Progress) (ls : List (List ℕ)) (f : Fault) → commands_from n p ls ≡ Err f
     → FirstFault n p ls f
-first_fault n p [] f h = never (cc)
+first_fault n p [] f h = absurd (cc)
 first_fault n p (l ∷ ls) f h =
     first_fault_by n p l ls f (read_line (n + 1) p l) refl h (λ q e. first_fault (n + 1) q ls f e)

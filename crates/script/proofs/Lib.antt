@@ -1,6 +1,5 @@
 pub mod FirstFaults
 pub mod Lines
-pub mod Never
 pub mod Orderly
 pub mod Parts
 pub mod Passes

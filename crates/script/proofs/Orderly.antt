@@ -1,5 +1,5 @@
 -- The commands of a script that is not at fault stand in order.
-use Rattle.std.proofs.Common.{◌≡◌, ℕ, zero, suc, ◌+◌, ◌<◌, ◌≤◌, Bool, true, false, cond, not, ◌&&◌, eqb, ltb, ◌≢◌}
+use Rattle.std.proofs.Common.{◌≡◌, ℕ, zero, suc, ◌+◌, ◌<◌, ◌≤◌, Bool, true, false, cond, not, ◌&&◌, eqb, ltb, leb, ◌≢◌}
 use Rattle.std.proofs.Common.{List, [], ◌∷◌, length, get_or, set, replicate, Some, None, Ok, Err, Option, Result, sym}
 use Rattle.std.proofs.Common.{refl, ap, ◌∙◌, subst, arith, length-set, get_or-set_other, get_or-set_same}
 use Rattle.std.proofs.ByRecursion.{All-weaker}
@@ -25,7 +25,6 @@ use Rattle.script.specs.Order.{drained, stage_after, nothing_read}
 use Rattle.script.specs.Order.{noted, at_stage?, after}
 use Rattle.script.specs.Script.{before, commands_by, progress_by, commands_from}
 use Rattle.script.specs.Tokens.{Seen, line_tokens}
-use Rattle.script.proofs.Never.{never}
 
 -- commands that are accepted one after another
 abbrev Accepted : Progress → List Placed → Type 0
@@ -38,26 +37,26 @@ accepted_by : (q : Result Progress Refusal) (p : Progress) (c : Command) (place 
 accepted_by (Ok q) p c place x e h =
     let same : record { placed = record { command = c; place = place }; progress = q } ≡ x = cc in
     subst (λ (y : Read). after p y.placed.command ≡ Ok y.progress) same e
-accepted_by (Err r) p c place x e h = never (cc)
+accepted_by (Err r) p c place x e h = absurd (cc)
 
 accepted_command : (r : Result Command Fault) (p : Progress) (place : Place) (x : Read)
     → then r (λ c. ordered_by (after p c) c place) ≡ Ok x → after p x.placed.command ≡ Ok x.progress
 accepted_command (Ok c) p place x h = accepted_by (after p c) p c place x refl h
-accepted_command (Err e) p place x h = never (cc)
+accepted_command (Err e) p place x h = absurd (cc)
 
 some_read : (r : Result Read Fault) (x : Read) → then r (λ y. Ok (Some y)) ≡ Ok (Some x) → r ≡ Ok x
 some_read (Ok y) x h = let same : y ≡ x = cc in ap Ok same
-some_read (Err e) x h = never (cc)
+some_read (Err e) x h = absurd (cc)
 
 accepted_tokens : (p : Progress) (ts : List Seen) (x : Read) → read_tokens p ts ≡ Ok (Some x)
     → after p x.placed.command ≡ Ok x.progress
-accepted_tokens p [] x h = never (cc)
+accepted_tokens p [] x h = absurd (cc)
 accepted_tokens p (t ∷ ts) x h =
     accepted_command (command_of p.directions t ts) p t.place x (some_read (ordered p t ts) x h)
 
 accepted_line_by : (v : Bool) (f : Fault) (p : Progress) (ts : List Seen) (x : Read)
     → cond v (Err f) (read_tokens p ts) ≡ Ok (Some x) → after p x.placed.command ≡ Ok x.progress
-accepted_line_by true f p ts x h = never (cc)
+accepted_line_by true f p ts x h = absurd (cc)
 accepted_line_by false f p ts x h = accepted_tokens p ts x h
 
 accepted_line : (k : ℕ) (p : Progress) (bs : List ℕ) (x : Read) → read_line k p bs ≡ Ok (Some x)
@@ -69,13 +68,13 @@ accepted_line k p bs x h =
 before_ok : (c : Placed) (r : Result (List Placed) Fault) (cs : List Placed) → before c r ≡ Ok cs
     → (ds : List Placed) × ((r ≡ Ok ds) × (c ∷ ds ≡ cs))
 before_ok c (Ok ds) cs h = (ds, (refl, cc))
-before_ok c (Err e) cs h = never (cc)
+before_ok c (Err e) cs h = absurd (cc)
 
 accepted_from_by : (n : ℕ) (p : Progress) (l : List ℕ) (ls : List (List ℕ)) (cs : List Placed)
     (r : Result (Option Read) Fault) → read_line (n + 1) p l ≡ r
     → then r (λ x. commands_by x (commands_from (n + 1) (progress_by p x) ls)) ≡ Ok cs
     → ((q : Progress) (ds : List Placed) → commands_from (n + 1) q ls ≡ Ok ds → Accepted q ds) → Accepted p cs
-accepted_from_by n p l ls cs (Err e) is h more = never (cc)
+accepted_from_by n p l ls cs (Err e) is h more = absurd (cc)
 accepted_from_by n p l ls cs (Ok None) is h more = more p cs h
 accepted_from_by n p l ls cs (Ok (Some x)) is h more =
     let b = before_ok x.placed (commands_from (n + 1) x.progress ls) cs h in
@@ -94,16 +93,6 @@ rank Cabled = 1
 rank Running = 2
 rank Draining = 3
 
-abbrev rank? : Option Stage → ℕ
-rank? None = 9
-rank? (Some s) = rank s
-
-rank_le : (s : Stage) → rank s ≤ 3
-rank_le Bare = omega arith
-rank_le Cabled = omega arith
-rank_le Running = omega arith
-rank_le Draining = omega arith
-
 abbrev limit : Command → ℕ
 limit (Chain links) = 1
 limit (Login link west east m n) = 2
@@ -115,107 +104,65 @@ limit Drain = 3
 limit Page = 4
 
 abbrev reach : Command → ℕ
-reach (Chain links) = 1
-reach (Login link west east m n) = 1
-reach (Lose d kind first count) = 1
-reach (Inject end count) = 2
-reach (Collect end count) = 2
-reach (Step count) = 2
-reach Drain = 3
-reach Page = 2
+reach c = cond (is_drain c) 3 (cond (runs c) 2 1)
 
 abbrev Moved : ℕ → ℕ → Stage → Stage → Type 0
 Moved most least s t = (rank s < most) × (rank s ≤ rank t) × (least ≤ rank t)
 
-moved_cabled : (s t : Stage) → cabled s ≡ Some t → Moved 1 1 s t
-moved_cabled Bare t h = let e = ap rank? h in let b = rank_le t in (omega arith, omega arith, omega arith)
-moved_cabled Cabled t h = let e = ap rank? h in let b = rank_le t in (omega arith, omega arith, omega arith)
-moved_cabled Running t h = let e = ap rank? h in let b = rank_le t in (omega arith, omega arith, omega arith)
-moved_cabled Draining t h = let e = ap rank? h in let b = rank_le t in (omega arith, omega arith, omega arith)
+abbrev moves : ℕ → ℕ → Stage → Option Stage → Bool
+moves most least s None = true
+moves most least s (Some t) = ltb (rank s) most && (leb (rank s) (rank t) && leb least (rank t))
 
-moved_prepared : (s t : Stage) → prepared s ≡ Some t → Moved 2 1 s t
-moved_prepared Bare t h = let e = ap rank? h in let b = rank_le t in (omega arith, omega arith, omega arith)
-moved_prepared Cabled t h = let e = ap rank? h in let b = rank_le t in (omega arith, omega arith, omega arith)
-moved_prepared Running t h = let e = ap rank? h in let b = rank_le t in (omega arith, omega arith, omega arith)
-moved_prepared Draining t h = let e = ap rank? h in let b = rank_le t in (omega arith, omega arith, omega arith)
+moved_at : (most least : ℕ) (s : Stage) (o : Option Stage) (t : Stage) → moves most least s o ≡ true → o ≡ Some t
+    → Moved most least s t
+moved_at most least s None t e h = absurd (cc)
+moved_at most least s (Some u) t e h =
+    let same : u ≡ t = cc in subst (Moved most least s) same (grind (arith, nat_tests))
 
-moved_injected : (s t : Stage) → injected s ≡ Some t → Moved 3 2 s t
-moved_injected Bare t h = let e = ap rank? h in let b = rank_le t in (omega arith, omega arith, omega arith)
-moved_injected Cabled t h = let e = ap rank? h in let b = rank_le t in (omega arith, omega arith, omega arith)
-moved_injected Running t h = let e = ap rank? h in let b = rank_le t in (omega arith, omega arith, omega arith)
-moved_injected Draining t h = let e = ap rank? h in let b = rank_le t in (omega arith, omega arith, omega arith)
-
-moved_run : (s t : Stage) → run s ≡ Some t → Moved 4 2 s t
-moved_run Bare t h = let e = ap rank? h in let b = rank_le t in (omega arith, omega arith, omega arith)
-moved_run Cabled t h = let e = ap rank? h in let b = rank_le t in (omega arith, omega arith, omega arith)
-moved_run Running t h = let e = ap rank? h in let b = rank_le t in (omega arith, omega arith, omega arith)
-moved_run Draining t h = let e = ap rank? h in let b = rank_le t in (omega arith, omega arith, omega arith)
-
-moved_drained : (s t : Stage) → drained s ≡ Some t → Moved 3 3 s t
-moved_drained Bare t h = let e = ap rank? h in let b = rank_le t in (omega arith, omega arith, omega arith)
-moved_drained Cabled t h = let e = ap rank? h in let b = rank_le t in (omega arith, omega arith, omega arith)
-moved_drained Running t h = let e = ap rank? h in let b = rank_le t in (omega arith, omega arith, omega arith)
-moved_drained Draining t h = let e = ap rank? h in let b = rank_le t in (omega arith, omega arith, omega arith)
+-- a step, by what it does at each stage
+moved_by : (most least : ℕ) (step : Stage → Option Stage) (s t : Stage)
+    → (moves most least Bare (step Bare) ≡ true) × (moves most least Cabled (step Cabled) ≡ true)
+    × (moves most least Running (step Running) ≡ true) × (moves most least Draining (step Draining) ≡ true)
+    → step s ≡ Some t → Moved most least s t
+moved_by most least step Bare t e h = moved_at most least Bare (step Bare) t e.0 h
+moved_by most least step Cabled t e h = moved_at most least Cabled (step Cabled) t e.1 h
+moved_by most least step Running t e h = moved_at most least Running (step Running) t e.2 h
+moved_by most least step Draining t e h = moved_at most least Draining (step Draining) t e.3 h
 
 moved : (c : Command) (s t : Stage) → stage_after s c ≡ Some t → Moved (limit c) (reach c) s t
-moved (Chain links) s t h = moved_cabled s t h
-moved (Login link west east m n) s t h = moved_prepared s t h
-moved (Lose d kind first count) s t h = moved_prepared s t h
-moved (Inject end count) s t h = moved_injected s t h
-moved (Collect end count) s t h = moved_run s t h
-moved (Step count) s t h = moved_run s t h
-moved Drain s t h = moved_drained s t h
-moved Page s t h = moved_run s t h
+moved (Chain links) s t h = moved_by 1 1 cabled s t (refl, refl, refl, refl) h
+moved (Login link west east m n) s t h = moved_by 2 1 prepared s t (refl, refl, refl, refl) h
+moved (Lose d kind first count) s t h = moved_by 2 1 prepared s t (refl, refl, refl, refl) h
+moved (Inject end count) s t h = moved_by 3 2 injected s t (refl, refl, refl, refl) h
+moved (Collect end count) s t h = moved_by 4 2 run s t (refl, refl, refl, refl) h
+moved (Step count) s t h = moved_by 4 2 run s t (refl, refl, refl, refl) h
+moved Drain s t h = moved_by 3 3 drained s t (refl, refl, refl, refl) h
+moved Page s t h = moved_by 4 2 run s t (refl, refl, refl, refl) h
 
 -- nothing but a chain line stands first
 first_chain : (c : Command) (t : Stage) → stage_after Bare c ≡ Some t → is_chain c ≡ true
 first_chain (Chain links) t h = refl
-first_chain (Login link west east m n) t h = never (cc)
-first_chain (Lose d kind first count) t h = never (cc)
-first_chain (Inject end count) t h = never (cc)
-first_chain (Collect end count) t h = never (cc)
-first_chain (Step count) t h = never (cc)
-first_chain Drain t h = never (cc)
-first_chain Page t h = never (cc)
+first_chain (Login link west east m n) t h = absurd (cc)
+first_chain (Lose d kind first count) t h = absurd (cc)
+first_chain (Inject end count) t h = absurd (cc)
+first_chain (Collect end count) t h = absurd (cc)
+first_chain (Step count) t h = absurd (cc)
+first_chain Drain t h = absurd (cc)
+first_chain Page t h = absurd (cc)
 
-not_running : (a : Command) → reach a < 2 → runs a ≡ false
-not_running (Chain links) h = refl
-not_running (Login link west east m n) h = refl
-not_running (Lose d kind first count) h = refl
-not_running (Inject end count) h = absurd (omega arith)
-not_running (Collect end count) h = absurd (omega arith)
-not_running (Step count) h = absurd (omega arith)
-not_running Drain h = absurd (omega arith)
-not_running Page h = absurd (omega arith)
-
-not_drain : (a : Command) → reach a < 3 → is_drain a ≡ false
-not_drain (Chain links) h = refl
-not_drain (Login link west east m n) h = refl
-not_drain (Lose d kind first count) h = refl
-not_drain (Inject end count) h = refl
-not_drain (Collect end count) h = refl
-not_drain (Step count) h = refl
-not_drain Drain h = absurd (omega arith)
-not_drain Page h = refl
-
-reach_some : (a : Command) → 1 ≤ reach a
-reach_some (Chain links) = omega arith
-reach_some (Login link west east m n) = omega arith
-reach_some (Lose d kind first count) = omega arith
-reach_some (Inject end count) = omega arith
-reach_some (Collect end count) = omega arith
-reach_some (Step count) = omega arith
-reach_some Drain = omega arith
-reach_some Page = omega arith
+reach_by : (drain running : Bool)
+    → (1 ≤ cond drain 3 (cond running 2 1)) × (cond drain 3 (cond running 2 1) < 2 → running ≡ false)
+    × (cond drain 3 (cond running 2 1) < 3 → drain ≡ false)
+reach_by drain running = (grind (arith, nat_tests), λ h. grind (arith, nat_tests), λ h. grind (arith, nat_tests))
 
 follow_by : (a d : Command) → reach a < limit d → follows a d ≡ true
-follow_by a (Chain links) h = let some = reach_some a in absurd (omega arith)
-follow_by a (Login link west east m n) h = ap not (not_running a h)
-follow_by a (Lose d kind first count) h = ap not (not_running a h)
-follow_by a (Inject end count) h = ap not (not_drain a h)
+follow_by a (Chain links) h = let some = (reach_by (is_drain a) (runs a)).0 in absurd (omega arith)
+follow_by a (Login link west east m n) h = ap not ((reach_by (is_drain a) (runs a)).1 h)
+follow_by a (Lose d kind first count) h = ap not ((reach_by (is_drain a) (runs a)).1 h)
+follow_by a (Inject end count) h = ap not ((reach_by (is_drain a) (runs a)).2 h)
 follow_by a (Collect end count) h = refl
 follow_by a (Step count) h = refl
-follow_by a Drain h = ap not (not_drain a h)
+follow_by a Drain h = ap not ((reach_by (is_drain a) (runs a)).2 h)
 follow_by a Page h = refl
 
 -- what an accepted command leaves: its stage, and one more lose where it is one
@@ -281,7 +228,7 @@ module _ (p q : Progress) (low : Low p.loses) where
           λ d. (at d).0 ∙ ap (λ (xs : List ℕ). get_or xs d 0) loses,
         ),
       )
-  one_more e t false is h = never (cc)
+  one_more e t false is h = absurd (cc)
 
   left_by : (c : Command) (t : Stage) → noted c t p ≡ Ok q → (t ≡ q.stage) × Counted c p.loses q.loses
   left_by (Chain links) t h = (ap ok_stage h, kept (Chain links) (λ d. refl) (ap ok_loses h))
@@ -295,7 +242,7 @@ module _ (p q : Progress) (low : Low p.loses) where
 
   accepted_at : (c : Command) (o : Option Stage) → stage_after p.stage c ≡ o → at_stage? o c p ≡ Ok q
       → (stage_after p.stage c ≡ Some q.stage) × Counted c p.loses q.loses
-  accepted_at c None is h = never (cc)
+  accepted_at c None is h = absurd (cc)
   accepted_at c (Some t) is h = let l = left_by c t h in (is ∙ ap Some l.0, l.1)
 
   accepted : (c : Command) → after p c ≡ Ok q

@@ -5,7 +5,6 @@ use Rattle.std.proofs.lemmas.Bool.{eqb-true, eqb-false}
 use Rattle.std.specs.List.{AllByRecursion}
 use Rattle.script.specs.Laws.{Lined, Apart, Parted}
 use Rattle.script.specs.Text.{Word, onto, lines, goes_on, attached, words}
-use Rattle.script.proofs.Never.{never}
 
 -- one byte more before the first line
 lined_onto : (b : ℕ) (bs : List ℕ) (ls : List (List ℕ)) → (b ≡ 10 → ⊥) → Lined bs ls → Lined (b ∷ bs) (onto b ls)
@@ -45,7 +44,7 @@ parted_space at b bs (w ∷ ws) e (f, h) =
 
 apart_by : (b : ℕ) (v : Bool) → eqb b 32 ≡ v → not v ≡ false → b ≡ 32
 apart_by b true e h = eqb-true b 32 e
-apart_by b false e h = never (cc)
+apart_by b false e h = absurd (cc)
 
 -- bytes that do not go on with a word
 apart_from : (bs : List ℕ) → goes_on bs ≡ false → Apart bs
@@ -53,12 +52,12 @@ apart_from [] h = tt
 apart_from (b ∷ bs) h = apart_by b (eqb b 32) refl h
 
 ink_by : (b : ℕ) (v : Bool) → eqb b 32 ≡ v → not v ≡ true → b ≡ 32 → ⊥
-ink_by b true e h = never (cc)
+ink_by b true e h = absurd (cc)
 ink_by b false e h = eqb-false b 32 e
 
 -- where bytes go on with a word, no gap stands before it
 no_spaces : (bs : List ℕ) → goes_on bs ≡ true → AllByRecursion (λ b. b ≡ 32) bs → ⊥
-no_spaces [] g h = never (cc)
+no_spaces [] g h = absurd (cc)
 no_spaces (b ∷ bs) g h = ink_by b (eqb b 32) refl g h.0
 
 no_gap : (bs gap more : List ℕ) → goes_on bs ≡ true → bs ≡ gap ++ more → AllByRecursion (λ b. b ≡ 32) gap → gap ≡ []

@@ -1,5 +1,5 @@
 -- A pass over the lines of a script.
-use Rattle.std.proofs.Common.{◌≡◌, ℕ, ◌+◌, ◌<◌, List, [], ◌∷◌, length, is_some, Some, None, Ok, Err, Option, Result}
+use Rattle.std.proofs.Common.{◌≡◌, ℕ, ◌+◌, ◌<◌, true, false, List, [], ◌∷◌, length, is_some, Some, None, Ok, Err, Option, Result}
 use Rattle.std.proofs.Common.{unwrap_or, sym, refl, ap, ◌∙◌, arith}
 use Rattle.script.specs.declared.command.Placed.{Placed}
 use Rattle.script.specs.declared.fault.Fault.{Fault}
@@ -9,7 +9,6 @@ use Rattle.script.specs.Faults.{then}
 use Rattle.script.specs.Line.{read_line}
 use Rattle.script.specs.Script.{State, Stepped, line_by, next_line, past_line, next_from, next}
 use Rattle.script.specs.Script.{commands_by, progress_by, commands_from, commands, first_then, ends}
-use Rattle.script.proofs.Never.{never}
 
 line_read_by : (s t : State) (ls : List (List ℕ)) (l : List ℕ) (r : Result (Option Read) Fault)
     → (Some l, t) ≡ line_by s ls → r ≡ read_line t.done t.progress l
@@ -61,19 +60,20 @@ Fewer k s = (c : Placed) → s.0 ≡ Ok (Some c) → length s.1.ahead < k
 
 fewer_past : (t : State) (r : Result (Option Read) Fault) (onward : Stepped) (k : ℕ)
     → length t.ahead < k → Fewer k onward → Fewer k (past_line t r onward)
-fewer_past t (Err e) onward k h more c q = never (cc)
+fewer_past t (Err e) onward k h more c q = absurd (cc)
 fewer_past t (Ok None) onward k h more c q = more c q
 fewer_past t (Ok (Some x)) onward k h more c q = h
 
 fewer_from : (n : ℕ) (p : Progress) (ls : List (List ℕ)) → Fewer (length ls) (next_from n p ls)
-fewer_from n p [] c q = never (cc)
+fewer_from n p [] c q = absurd (cc)
 fewer_from n p (l ∷ ls) c q =
     fewer_past (record { done = n + 1; progress = p; ahead = ls }) (read_line (n + 1) p l) (next_from (n + 1) p ls)
     (length (l ∷ ls)) (omega arith) (λ d e. let f = fewer_from (n + 1) p ls d e in omega arith) c q
 
-pub fewer : (s t : State) (c : Placed) → ◌≡◌ {A = Stepped} (Ok (Some c), t) (next s)
+pub fewer : (s t : State) (o : Option Placed) → ◌≡◌ {A = Stepped} (Ok o, t) (next s) → is_some o ≡ true
     → length t.ahead < length s.ahead
-fewer s t c h =
+fewer s t None h e = absurd (cc)
+fewer s t (Some c) h e =
     let first : (next s).0 ≡ Ok (Some c) = ap (λ p. p.0) (sym h) in
     let last : t.ahead ≡ (next s).1.ahead = ap (λ p. p.1.ahead) h in
     let f = fewer_from s.done s.progress s.ahead c first in
@@ -85,6 +85,7 @@ pub passes : (s t : State) (r : Result (Option Placed) Fault) → ◌≡◌ {A =
 passes s t r h = commands_next s ∙ ap (λ p. first_then p.0 (commands p.1)) (sym h)
 
 -- where no command is left
-pub ends_none : (s t : State) (o : Option Placed) → commands s ≡ first_then (Ok o) (commands t) → o ≡ None
+pub ends_none : (s t : State) (o : Option Placed) → commands s ≡ first_then (Ok o) (commands t) → is_some o ≡ false
     → Ok tt ≡ ends (commands s)
-ends_none s t o h e = sym (ap ends (h ∙ ap (λ x. first_then (Ok x) (commands t)) e))
+ends_none s t None h e = sym (ap ends h)
+ends_none s t (Some c) h e = absurd (cc)

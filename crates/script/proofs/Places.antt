@@ -3,6 +3,7 @@ use Rattle.std.proofs.Common.{◌≡◌, ℕ, Bool, true, false, cond, ◌&&◌,
 use Rattle.std.proofs.Common.{Ok, Err, Option, Result, refl, subst}
 use Rattle.std.specs.Option.{ok_or}
 use Rattle.std.specs.List.{AllByRecursion}
+use Rattle.symbol.specs.Ends.{end_with}
 use Rattle.symbol.specs.Symbols.{kind_with}
 use Rattle.script.specs.declared.command.Command.{Command}
 use Rattle.script.specs.declared.command.Command.TheVariants.{Chain}
@@ -16,16 +17,15 @@ use Rattle.script.specs.declared.fault.Refusal.TheVariants.{LongLine, WordCount,
 use Rattle.script.specs.declared.arguments.Number.{Number}
 use Rattle.script.specs.declared.line.Read.{Read}
 use Rattle.script.specs.declared.order.Progress.{Progress}
-use Rattle.script.specs.Arguments.{number_by, as_number, letter_by, as_letter, as_end, as_kind, within, below, rest}
+use Rattle.script.specs.Arguments.{number_by, as_number, letter_by, as_letter, within, below, rest}
 use Rattle.script.specs.Arguments.{taken, taken_number, chain_by, chain_of, login_of, lose_of, frames_of}
 use Rattle.script.specs.Arguments.{arguments_of}
-use Rattle.script.specs.Commands.{keyword_of, arity, end_with}
+use Rattle.script.specs.Commands.{keyword_of, arity}
 use Rattle.script.specs.Faults.{fault_at, fault, then}
 use Rattle.script.specs.Line.{command_by, command_of, ordered_by, ordered, read_tokens, read_line}
 use Rattle.script.specs.Order.{after}
 use Rattle.script.specs.Text.{Word, words}
 use Rattle.script.specs.Tokens.{Kind, number, letter, other, Seen, placed, line_tokens}
-use Rattle.script.proofs.Never.{never}
 
 -- a fault on line k, or a result of which P holds
 abbrev On : {A : Type 0} → ℕ → (A → Type 0) → Result A Fault → Type 0
@@ -127,7 +127,7 @@ module _ (k : ℕ) (head : Place) (at : head.line ≡ k) where
       with_number (rest (rest ts)) _ h2 (λ i e2.
       with_number (rest (rest (rest ts))) _ h3 (λ c e3.
       with_value (below ds d) _ (on_below ds d e) (λ direction.
-      with_value (as_kind l) _ (on_letter kind_with l e1) (λ kind.
+      with_value (as_letter kind_with l) _ (on_letter kind_with l e1) (λ kind.
       with_value (within 1 99999999 i) _ (on_within 1 99999999 i e2) (λ first.
       with_value (within 1 99999999 c) _ (on_within 1 99999999 c e3) (λ count. tt))))))))
 
@@ -135,7 +135,7 @@ module _ (k : ℕ) (head : Place) (at : head.line ≡ k) where
   on_frames ts h =
       with_token ts _ h (λ t e.
       with_number (rest ts) _ (on_rest ts h) (λ n e1.
-      with_value (as_end t) _ (on_letter end_with t e) (λ end.
+      with_value (as_letter end_with t) _ (on_letter end_with t e) (λ end.
       with_value (within 1 1000 n) _ (on_within 1 1000 n e1) (λ count. tt))))
 
   on_arguments : (w : Keyword) (ds : ℕ) (ts : List Seen) → AllByRecursion (TokenOn k) ts
@@ -182,7 +182,7 @@ on_line k p bs =
     (on_tokens k p (line_tokens k bs) (all_placed k (words 1 bs)))
 
 told_by : (k : ℕ) (r : Result (Option Read) Fault) (f : Fault) → On k Any r → r ≡ Err f → f.place.line ≡ k
-told_by k (Ok x) f h e = never (cc)
+told_by k (Ok x) f h e = absurd (cc)
 told_by k (Err g) f h e = let same : g ≡ f = cc in subst (λ (x : Fault). x.place.line ≡ k) same h
 
 -- the line told with a fault is that of the line at fault

@@ -1,31 +1,28 @@
 -- How the words of a line begin, gap by gap and word by word.
-use Rattle.std.proofs.Common.{◌≡◌, ℕ, suc, ◌+◌, ◌-◌, ◌<◌, ◌≤◌, Bool, true, false, eqb, List, [], ◌∷◌, length, get_or}
-use Rattle.std.proofs.Common.{take, drop, sym, refl, ap, ◌∙◌, subst, add-zero, add-suc, suc-add, add-one, one-add}
-use Rattle.std.proofs.Common.{arith, length-drop, get_or-drop}
+use Rattle.std.proofs.Common.{◌≡◌, ℕ, suc, ◌+◌, ◌<◌, ◌≤◌, Bool, true, false, eqb, List, [], ◌∷◌, length}
+use Rattle.std.proofs.Common.{take, drop, sym, refl, ap, ◌∙◌, add-zero, add-suc, suc-add, add-one, one-add}
+use Rattle.std.proofs.Common.{arith}
 use Rattle.std.specs.List.{prefix_len}
-use Rattle.std.proofs.lemmas.List.{drop-drop, drop_more, drop_all}
-use Rattle.std.proofs.lemmas.List.Sums.{prefix_len-le-length}
-use Rattle.script.specs.declared.scan.Run.{Run}
-use Rattle.script.specs.declared.scan.Run.TheVariants.{Gap, Word as InWord}
-use Rattle.script.specs.Text.{in_run, Word, words, attached}
+use Rattle.script.specs.Text.{in_gap, in_word, Word, words, goes_on, attached}
+use Rattle.script.specs.Tokens.{placed}
 
 -- the words after a gap are the words
 gap_step : (at b : ℕ) (bs : List ℕ) (v : Bool) → eqb b 32 ≡ v
-    → words (suc at) bs ≡ words (suc at + prefix_len (in_run Gap) bs) (drop (prefix_len (in_run Gap) bs) bs)
+    → words (suc at) bs ≡ words (suc at + prefix_len in_gap bs) (drop (prefix_len in_gap bs) bs)
     → words at (b ∷ bs)
-    ≡ words (at + prefix_len (in_run Gap) (b ∷ bs)) (drop (prefix_len (in_run Gap) (b ∷ bs)) (b ∷ bs))
+    ≡ words (at + prefix_len in_gap (b ∷ bs)) (drop (prefix_len in_gap (b ∷ bs)) (b ∷ bs))
 gap_step at b bs true e h = rw (e, one-add) (h ∙ rw (suc-add, add-suc))
 gap_step at b bs false e h = rw (e, add-zero) (rw e)
 
-pub after_gap : (at : ℕ) (bs : List ℕ)
-    → words at bs ≡ words (at + prefix_len (in_run Gap) bs) (drop (prefix_len (in_run Gap) bs) bs)
+after_gap : (at : ℕ) (bs : List ℕ)
+    → words at bs ≡ words (at + prefix_len in_gap bs) (drop (prefix_len in_gap bs) bs)
 after_gap at [] = refl
 after_gap at (b ∷ bs) = gap_step at b bs (eqb b 32) refl (after_gap (suc at) bs)
 
 -- the words at a word: that word, and those after it
 abbrev word_first : ℕ → List ℕ → List Word
 word_first at bs =
-    let n = prefix_len (in_run InWord) bs in
+    let n = prefix_len in_word bs in
     record { byte = at; text = take n bs } ∷ words (at + n) (drop n bs)
 
 word_step : (at b c : ℕ) (cs : List ℕ) (v : Bool) → eqb b 32 ≡ false → eqb c 32 ≡ v
@@ -36,56 +33,84 @@ word_step at b c cs false h e more =
     let joins : words at (b ∷ c ∷ cs) ≡ attached at b true (words (suc at) (c ∷ cs)) = simp (h, e) in
     joins ∙ ap (attached at b true) (more e) ∙ simp (h, e, one-add, suc-add, add-suc)
 
-pub at_word : (at b : ℕ) (bs : List ℕ) → eqb b 32 ≡ false → words at (b ∷ bs) ≡ word_first at (b ∷ bs)
+at_word : (at b : ℕ) (bs : List ℕ) → eqb b 32 ≡ false → words at (b ∷ bs) ≡ word_first at (b ∷ bs)
 at_word at b [] h = simp h
 at_word at b (c ∷ cs) h = word_step at b c cs (eqb c 32) h refl (at_word (suc at) c cs)
 
--- a run ends within the bytes
-pub run_within : (r : Run) (bs : List ℕ) (at : ℕ) → at ≤ length bs
-    → at + prefix_len (in_run r) (drop at bs) ≤ length bs
-run_within r bs at h = omega (arith, prefix_len-le-length (in_run r) (drop at bs), length-drop at bs)
+-- no gap stands before the bytes
+abbrev InkFirst : List ℕ → Type 0
+InkFirst [] = Unit {0}
+InkFirst (b ∷ bs) = eqb b 32 ≡ false
 
--- the byte that ends a run is not in it
-stop_step : (p : ℕ → Bool) (x : ℕ) (xs : List ℕ) (v : Bool) → p x ≡ v
-    → (prefix_len p xs < length xs → p (get_or xs (prefix_len p xs) 0) ≡ false)
-    → prefix_len p (x ∷ xs) < length (x ∷ xs)
-    → p (get_or (x ∷ xs) (prefix_len p (x ∷ xs)) 0) ≡ false
-stop_step p x xs true e more h = let k = rw (e, one-add) at h in rw (e, one-add) (more (omega arith))
-stop_step p x xs false e more h = rw e e
+ink_step : (b : ℕ) (bs : List ℕ) (v : Bool) → eqb b 32 ≡ v → InkFirst (drop (prefix_len in_gap bs) bs)
+    → InkFirst (drop (prefix_len in_gap (b ∷ bs)) (b ∷ bs))
+ink_step b bs true e h = rw (e, one-add) h
+ink_step b bs false e h = rw e e
 
-stops : (p : ℕ → Bool) (xs : List ℕ) → prefix_len p xs < length xs → p (get_or xs (prefix_len p xs) 0) ≡ false
-stops p [] h = absurd (omega arith)
-stops p (x ∷ xs) h = stop_step p x xs (p x) refl (stops p xs) h
+past_gap : (bs : List ℕ) → InkFirst (drop (prefix_len in_gap bs) bs)
+past_gap [] = tt
+past_gap (b ∷ bs) = ink_step b bs (eqb b 32) refl (past_gap bs)
 
-module _ (bs : List ℕ) (at start : ℕ) (gap : start ≡ at + prefix_len (in_run Gap) (drop at bs)) where
-  to_start : words (at + 1) (drop at bs) ≡ words (start + 1) (drop start bs)
-  to_start =
-      let n = prefix_len (in_run Gap) (drop at bs) in
-      let shift : at + 1 + n ≡ start + 1 = omega arith in
-      let back : drop n (drop at bs) ≡ drop start bs = drop-drop n at bs ∙ ap (λ (k : ℕ). drop k bs) (sym gap) in
-      after_gap (at + 1) (drop at bs) ∙ rw (shift, back)
+at_ink : (at : ℕ) (bs : List ℕ) → InkFirst bs → 0 < prefix_len in_word bs
+    → words at bs ≡ word_first at bs
+at_ink at [] ink h = absurd (omega arith)
+at_ink at (b ∷ bs) ink h = at_word at b bs ink
+
+no_ink : (bs : List ℕ) → InkFirst bs → prefix_len in_word bs ≡ 0 → bs ≡ []
+no_ink [] ink h = refl
+no_ink (b ∷ bs) ink h = let k = rw (ink, one-add) at h in absurd (omega arith)
+
+-- bytes cut into a gap, a run behind it, and what is left
+pub record Cut (bs gap word left : List ℕ) : Type 0 where
+  pub behind : List ℕ
+  pub gap_len : length gap ≡ prefix_len in_gap bs
+  pub behind_is : behind ≡ drop (length gap) bs
+  pub word_len : length word ≡ prefix_len in_word behind
+  pub word_is : word ≡ take (length word) behind
+  pub left_is : left ≡ drop (length word) behind
+
+module _ (at : ℕ) (bs gap word left : List ℕ) (cut : Cut bs gap word left) where
+  to_behind : (words (at + 1) bs ≡ words (at + length gap + 1) cut.behind) × InkFirst cut.behind
+  to_behind =
+      let n = cut.gap_len in
+      let rest = cut.behind_is in
+      let start : at + 1 + length gap ≡ at + length gap + 1 = omega arith in
+      (after_gap (at + 1) bs ∙ rw (← n, start, ← rest), rw (rest, n) (past_gap bs))
 
   -- past the last word
-  pub no_word : length bs ≤ start → (words (at + 1) (drop at bs) ≡ []) × (words (start + 1) (drop start bs) ≡ [])
-  no_word h =
-      let end : words (start + 1) (drop start bs) ≡ [] = ap (words (start + 1)) (drop_all start bs h) in
-      (to_start ∙ end, end)
+  pub no_word : length word ≡ 0 → (words (at + 1) bs ≡ []) × (left ≡ [])
+  no_word none =
+      let n = cut.word_len in
+      let empty : cut.behind ≡ [] = no_ink cut.behind to_behind.1 (sym n ∙ none) in
+      (to_behind.0 ∙ ap (words (at + length gap + 1)) empty, cut.left_is ∙ rw (none, empty))
 
-  -- the first word is that from start to end, and the others come after
-  pub first_word : (end : ℕ) → start < length bs → end ≡ start + prefix_len (in_run InWord) (drop start bs)
-      → words (at + 1) (drop at bs)
-      ≡ record { byte = start + 1; text = take (end - start) (drop start bs) } ∷ words (end + 1) (drop end bs)
-  first_word end h e =
-      let n = prefix_len (in_run Gap) (drop at bs) in
-      let m = prefix_len (in_run InWord) (drop start bs) in
-      let inside : n < length (drop at bs) = omega (arith, length-drop at bs) in
-      let ink : eqb (get_or bs start 0) 32 ≡ false =
-      ap (λ (b : ℕ). eqb b 32) (ap (λ (k : ℕ). get_or bs k 0) gap ∙ sym (get_or-drop at bs n 0))
-      ∙ stops (in_run Gap) (drop at bs) inside in
-      let here : words (start + 1) (drop start bs) ≡ word_first (start + 1) (drop start bs) =
-      subst (λ (l : List ℕ). words (start + 1) l ≡ word_first (start + 1) l) (sym (drop_more bs start 0 h))
-      (at_word (start + 1) (get_or bs start 0) (drop (start + 1) bs) ink) in
-      let long : m ≡ end - start = omega arith in
-      let shift : start + 1 + m ≡ end + 1 = omega arith in
-      let back : drop m (drop start bs) ≡ drop end bs = drop-drop m start bs ∙ ap (λ (k : ℕ). drop k bs) (sym e) in
-      to_start ∙ here ∙ rw (shift, back, long)
+  -- the word behind the gap is the first
+  pub first_word : 0 < length word
+      → words (at + 1) bs
+      ≡ record { byte = at + length gap + 1; text = word } ∷ words (at + length gap + length word + 1) left
+  first_word some =
+      let n = cut.word_len in
+      let is = cut.word_is in
+      let rest = cut.left_is in
+      let end : at + length gap + 1 + length word ≡ at + length gap + length word + 1 = omega arith in
+      to_behind.0 ∙ at_ink (at + length gap + 1) cut.behind to_behind.1 (omega arith)
+      ∙ rw (← n, ← is, end, ← rest)
+
+-- no more words than bytes
+attached_few : (at b : ℕ) (g : Bool) (ws : List Word) → length (attached at b g ws) ≤ length ws + 1
+attached_few at b false ws = omega arith
+attached_few at b true [] = omega arith
+attached_few at b true (w ∷ ws) = omega arith
+
+few_by : (at b : ℕ) (bs : List ℕ) (v : Bool) → eqb b 32 ≡ v → length (words (suc at) bs) ≤ length bs
+    → length (words at (b ∷ bs)) ≤ length (b ∷ bs)
+few_by at b bs true e h = rw e (omega arith)
+few_by at b bs false e h = let few = attached_few at b (goes_on bs) (words (suc at) bs) in rw e (omega arith)
+
+pub words_few : (at : ℕ) (bs : List ℕ) → length (words at bs) ≤ length bs
+words_few at [] = omega arith
+words_few at (b ∷ bs) = few_by at b bs (eqb b 32) refl (words_few (suc at) bs)
+
+pub length-placed : (line : ℕ) (ws : List Word) → length (placed line ws) ≡ length ws
+length-placed line [] = refl
+length-placed line (w ∷ ws) = ap suc (length-placed line ws)

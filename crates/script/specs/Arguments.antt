@@ -1,12 +1,13 @@
 -- The arguments of each command, from the tokens behind its word.
-use Rattle.std.specs.Prelude.{ℕ, cond, ◌&&◌, List, [], ◌∷◌, None, Ok, Err, Option, Result, ◌==◌, nat_le, nat_lt}
+use Rattle.std.specs.Prelude.{◌≡◌, ℕ, cond, ◌&&◌, List, [], ◌∷◌, None, Ok, Err, Option, Result, ◌==◌, nat_le, nat_lt}
 use Rattle.std.specs.Option.{ok_or}
+use Rattle.std.specs.Result.{result_ok}
+use Rattle.symbol.specs.Ends.{end_with}
 use Rattle.symbol.specs.Symbols.{kind_with}
-use Rattle.symbol.specs.declared.SymbolKind.{SymbolKind}
+use Rattle.symbol.specs.declared.end.End.{End}
 use Rattle.script.specs.declared.arguments.Number.{Number}
 use Rattle.script.specs.declared.command.Command.{Command}
 use Rattle.script.specs.declared.command.Command.TheVariants as command
-use Rattle.script.specs.declared.command.End.{End}
 use Rattle.script.specs.declared.command.Keyword.{Keyword}
 use Rattle.script.specs.declared.command.Keyword.TheVariants as keyword
 use Rattle.script.specs.declared.command.Links.TheVariants.{One, Three}
@@ -14,7 +15,6 @@ use Rattle.script.specs.declared.fault.Fault.{Fault}
 use Rattle.script.specs.declared.fault.Place.{Place}
 use Rattle.script.specs.declared.fault.Refusal.TheVariants.{NotNumber, WordCount, OutOfRange}
 use Rattle.script.specs.declared.token.Token.{Token}
-use Rattle.script.specs.Commands.{end_with}
 use Rattle.script.specs.Faults.{fault_at, fault, then}
 use Rattle.script.specs.Tokens.{Kind, number, letter, other, Seen, seen}
 
@@ -36,11 +36,10 @@ letter_by f other = None
 abbrev pub as_letter : {A : Type 0} → (ℕ → Option A) → Seen → Result A Fault
 as_letter f t = ok_or (letter_by f t.kind) (fault_at OutOfRange t.place)
 
-abbrev pub as_end : Seen → Result End Fault
-as_end t = as_letter end_with t
-
-abbrev pub as_kind : Seen → Result SymbolKind Fault
-as_kind t = as_letter kind_with t
+-- a letter's meaning by a conversion, whatever function it computes
+abbrev pub Named : {A E : Type 0} → (ℕ → Result A E → Type 0) → Seen → Result A Fault → Type 0
+Named {A} {E} gives t r =
+    (f : ℕ → Option A) → ((l : ℕ) (x : Result A E) → gives l x → result_ok x ≡ f l) → r ≡ as_letter f t
 
 -- a value within its range
 abbrev pub within : ℕ → ℕ → Number → Result ℕ Fault
@@ -96,7 +95,7 @@ lose_of directions head ts =
     then (taken_number head (rest (rest ts))) (λ i.
     then (taken_number head (rest (rest (rest ts)))) (λ c.
     then (below directions d) (λ direction.
-    then (as_kind l) (λ kind.
+    then (as_letter kind_with l) (λ kind.
     then (within 1 99999999 i) (λ first.
     then (within 1 99999999 c) (λ count.
     Ok (command.Lose direction kind first count)))))))))
@@ -106,7 +105,7 @@ abbrev pub frames_of : Place → List Seen → Result (End × ℕ) Fault
 frames_of head ts =
     then (taken head ts) (λ e.
     then (taken_number head (rest ts)) (λ n.
-    then (as_end e) (λ end.
+    then (as_letter end_with e) (λ end.
     then (within 1 1000 n) (λ count.
     Ok (end, count)))))
 

@@ -1,8 +1,6 @@
--- The words and letters of the commands.
-use Rattle.std.specs.Prelude.{ℕ, cond, List, Some, None, codes, Option, ◌==◌}
+-- The words of the commands.
+use Rattle.std.specs.Prelude.{ℕ, cond, List, Some, None, codes, Option}
 use Rattle.std.specs.Str.{bytes_eq}
-use Rattle.script.specs.declared.command.End.{End}
-use Rattle.script.specs.declared.command.End.TheVariants.{West, East}
 use Rattle.script.specs.declared.command.Keyword.{Keyword}
 use Rattle.script.specs.declared.command.Keyword.TheVariants as keyword
 use Rattle.script.specs.declared.command.Links.{Links}
@@ -29,10 +27,6 @@ arity keyword.Collect = 2
 arity keyword.Step = 1
 arity keyword.Drain = 0
 arity keyword.Page = 0
-
--- w and e
-abbrev pub end_with : ℕ → Option End
-end_with l = cond (l == 119) (Some West) (cond (l == 101) (Some East) None)
 
 -- 2K
 abbrev pub directions_of : Links → ℕ

@@ -1,5 +1,5 @@
 -- A script, command by command.
-use Rattle.std.specs.Prelude.{ℕ, ◌+◌, cond, List, [], ◌∷◌, length, drop, Some, None, Ok, Err, Option, Result, nat_lt}
+use Rattle.std.specs.Prelude.{ℕ, ◌+◌, cond, List, [], ◌∷◌, length, Some, None, Ok, Err, Option, Result, nat_lt}
 use Rattle.std.specs.Borrow.{Bor}
 use Rattle.script.specs.declared.command.Placed.{Placed}
 use Rattle.script.specs.declared.cursor.Cursor.{Cursor}
@@ -19,7 +19,7 @@ pub record State : Type 0 where
   pub ahead : List (List ℕ)
 
 unfoldable pub state : Cursor → State
-state c = record { done = c.done; progress = c.progress; ahead = lines (drop c.at c.script.now) }
+state c = record { done = c.done; progress = c.progress; ahead = lines c.rest.now }
 
 abbrev pub started : List ℕ → State
 started bs = record { done = 0; progress = nothing_read; ahead = lines bs }

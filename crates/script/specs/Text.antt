@@ -1,15 +1,21 @@
 -- The bytes of a script: its lines, their words, and numbers.
-use Rattle.std.specs.Prelude.{ℕ, suc, ◌+◌, ◌-◌, ◌*◌, Bool, true, false, cond, not, ◌&&◌, List, [], ◌∷◌, length, Some}
+use Rattle.std.specs.Prelude.{◌≡◌, ℕ, suc, ◌+◌, ◌-◌, ◌*◌, Bool, true, false, cond, not, ◌&&◌, List, [], ◌∷◌, length, Some}
 use Rattle.std.specs.Prelude.{None, Option, ◌==◌, nat_le, nat_lt}
 use Rattle.std.specs.Str.{all_ascii_digits}
-use Rattle.script.specs.declared.scan.Run.{Run}
-use Rattle.script.specs.declared.scan.Run.TheVariants as run
 
 -- a gap is spaces, a word any other bytes, and byte 0A ends a line
-abbrev pub in_run : Run → ℕ → Bool
-in_run run.Gap b = b == 32
-in_run run.Word b = not (b == 32)
-in_run run.Line b = not (b == 10)
+abbrev pub in_gap : ℕ → Bool
+in_gap b = b == 32
+
+abbrev pub in_word : ℕ → Bool
+in_word b = not (b == 32)
+
+abbrev pub in_line : ℕ → Bool
+in_line b = not (b == 10)
+
+-- what a call may answer for a byte is what p answers
+abbrev pub Computes : (ℕ → Bool → Type 0) → (ℕ → Bool) → Type 0
+Computes answers p = (b : ℕ) (r : Bool) → answers b r → r ≡ p b
 
 -- a byte before the lines that follow it
 abbrev pub onto : ℕ → List (List ℕ) → List (List ℕ)
@@ -29,7 +35,7 @@ pub record Word : Type 0 where
 -- whether some bytes begin with a word
 abbrev pub goes_on : List ℕ → Bool
 goes_on [] = false
-goes_on (b ∷ bs) = in_run run.Word b
+goes_on (b ∷ bs) = in_word b
 
 -- byte b at place `at` before the words that follow: a word of its own, or the first byte of the next
 abbrev pub attached : ℕ → ℕ → Bool → List Word → List Word

@@ -1,5 +1,5 @@
 -- The tokens of a line, without the loan of their bytes.
-use Rattle.std.specs.Prelude.{ℕ, ◌+◌, List, [], ◌∷◌, drop, Some, None, Option}
+use Rattle.std.specs.Prelude.{ℕ, ◌+◌, List, [], ◌∷◌, Some, None, Option}
 use Rattle.script.specs.declared.fault.Place.{Place}
 use Rattle.script.specs.declared.token.Token.{Token}
 use Rattle.script.specs.declared.token.Token.TheVariants as token
@@ -45,9 +45,4 @@ line_tokens line bs = placed line (words 1 bs)
 
 -- the tokens still to come
 unfoldable pub left : Tokens → List Seen
-left t = placed t.line (words (t.at + 1) (drop t.at t.text.now))
-
--- the first, if any, and the others
-abbrev pub split : {A : Type 0} → List A → Option A × List A
-split [] = (None, [])
-split (x ∷ xs) = (Some x, xs)
+left t = placed t.line (words (t.at + 1) t.rest.now)

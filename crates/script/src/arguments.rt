@@ -1,20 +1,20 @@
 // The arguments of a command: its words are taken one by one, and all numbers are read before any range is judged.
 ghost use Rattle.std.specs.Prelude.{◌≡◌, ◌<◌, ◌≤◌};
-ghost use Rattle.script.specs.Arguments.{arguments_of, as_end, as_kind, as_number, below, chain_of, collect_of};
-ghost use Rattle.script.specs.Arguments.{frames_of, inject_of, login_of, lose_of, ok_seen, rest, step_of, taken};
+ghost use Rattle.script.specs.Arguments.{Named, arguments_of, as_number, below, chain_of};
+ghost use Rattle.script.specs.Arguments.{frames_of, login_of, lose_of, ok_seen, rest, step_of, taken};
 ghost use Rattle.script.specs.Arguments.{taken_number, within};
 ghost use Rattle.script.specs.Tokens.{left, seen};
 
-use crate::command::{Command, End, Keyword, Links};
+use crate::command::{Command, Keyword, Links};
 use crate::fault::{Fault, Place, Refusal};
 use crate::token::{Token, Tokens};
-use symbol::SymbolKind;
+use symbol::end::End;
 
 // The largest number.
 const LARGEST: u32 = 99_999_999;
 
 // A number of the script, with its place.
-#[derive(Clone, Copy)]
+#[derive(Clone, Copy, PartialEq, Eq, Debug)]
 pub(crate) struct Number {
     value: u32,
     place: Place,
@@ -25,7 +25,7 @@ impl Number {
     fn within(self, low: u32, high: u32) -> Result<u32, Fault>
         ensures { result ≡ within low high self }
     {
-        if low <= self.value && self.value <= high {
+        if (low..=high).contains(&self.value) {
             return Ok(self.value);
         }
         Err(self.place.fault(Refusal::OutOfRange))
@@ -35,10 +35,10 @@ impl Number {
     fn below(self, limit: u8) -> Result<u8, Fault>
         ensures { result ≡ below limit self }
     {
-        if self.value < limit as u32 {
-            return Ok(self.value as u8);
+        match u8::try_from(self.value) {
+            Ok(value) if value < limit => Ok(value),
+            _ => Err(self.place.fault(Refusal::OutOfRange)),
         }
-        Err(self.place.fault(Refusal::OutOfRange))
     }
 }
 
@@ -48,147 +48,131 @@ impl<'a> Token<'a> {
     {
         match self {
             Token::Number(_, value, place) => Ok(Number { value, place }),
-            Token::Letter(_, _, place) | Token::Word(_, place) => Err(place.fault(
-                Refusal::NotNumber,
-            )),
+            _ => Err(self.place().fault(Refusal::NotNumber)),
         }
     }
 
-    // The end that a letter names.
-    fn end(self) -> Result<End, Fault>
-        ensures { result ≡ as_end (seen self.entry) }
+    // What a letter names.
+    fn named<T: TryFrom<char>>(self) -> Result<T, Fault>
+    where
+        T::Error: Drop,
+        ensures { Named T.try_from_gives (seen self.entry) result }
     {
         let fault = self.place().fault(Refusal::OutOfRange);
         match self {
-            Token::Letter(_, letter, _) => End::from_letter(letter).ok_or(fault),
-            _ => Err(fault),
-        }
-    }
-
-    // The kind of symbol that a letter names.
-    fn kind(self) -> Result<SymbolKind, Fault>
-        ensures { result ≡ as_kind (seen self.entry) }
-    {
-        let fault = self.place().fault(Refusal::OutOfRange);
-        match self {
-            Token::Letter(_, letter, _) => SymbolKind::from_letter(letter).ok_or(fault),
+            Token::Letter(_, letter, _) => T::try_from(letter).map_err(|_| fault),
             _ => Err(fault),
         }
     }
 }
 
-impl<'a> Tokens<'a> {
-    // The next token; `head` is the place of the command's word.
-    fn take(&mut self, head: Place) -> Result<Token<'a>, Fault>
-        ensures answer { ok_seen result ≡ taken head (left self.old) }
-        ensures after { left self.new ≡ rest (left self.old) }
+// The arguments of a command: the tokens behind its word, and the place of the word.
+#[derive(Clone, Copy, PartialEq, Eq, Debug)]
+pub(crate) struct Arguments<'a> {
+    pub(crate) tokens: Tokens<'a>,
+    pub(crate) head: Place,
+}
+
+impl<'a> Arguments<'a> {
+    // The next argument.
+    fn token(&mut self) -> Result<Token<'a>, Fault>
+        ensures answer { ok_seen result ≡ taken self.old.head (left self.old.tokens) }
+        ensures after { left self.new.tokens ≡ rest (left self.old.tokens) }
+        ensures head { self.new.head ≡ self.old.head }
     {
-        match self.next() {
-            Some(token) => Ok(token),
-            None => Err(head.fault(Refusal::WordCount)),
+        self.tokens
+            .next()
+            .ok_or(self.head.fault(Refusal::WordCount))
+    }
+
+    // The next argument as a number.
+    fn number(&mut self) -> Result<Number, Fault>
+        ensures answer { result ≡ taken_number self.old.head (left self.old.tokens) }
+        ensures after { left self.new.tokens ≡ rest (left self.old.tokens) }
+        ensures head { self.new.head ≡ self.old.head }
+    {
+        self.token()?.number()
+    }
+
+    fn chain(mut self) -> Result<Command, Fault>
+        ensures { result ≡ chain_of self.entry.head (left self.entry.tokens) }
+    {
+        let links = self.number()?;
+        // Links are read here alone: a TryFrom for two numbers would be longer by an error and a definition.
+        match links.value {
+            1 => Ok(Command::Chain(Links::One)),
+            3 => Ok(Command::Chain(Links::Three)),
+            _ => Err(links.place.fault(Refusal::OutOfRange)),
         }
     }
 
-    // The next token as a number.
-    fn take_number(&mut self, head: Place) -> Result<Number, Fault>
-        ensures answer { result ≡ taken_number head (left self.old) }
-        ensures after { left self.new ≡ rest (left self.old) }
+    fn login(mut self) -> Result<Command, Fault>
+        ensures { result ≡ login_of self.entry.head (left self.entry.tokens) }
     {
-        self.take(head)?.number()
+        let link = self.number()?;
+        let west = self.number()?;
+        let east = self.number()?;
+        let west_n = self.number()?;
+        let east_n = self.number()?;
+        Ok(Command::Login {
+            link: link.value,
+            west: west.value,
+            east: east.value,
+            west_n: west_n.value,
+            east_n: east_n.value,
+        })
     }
-}
 
-fn parse_chain(mut tokens: Tokens<'_>, head: Place) -> Result<Command, Fault>
-    ensures { result ≡ chain_of head (left tokens.entry) }
-{
-    let links = tokens.take_number(head)?;
-    match links.value {
-        1 => Ok(Command::Chain(Links::One)),
-        3 => Ok(Command::Chain(Links::Three)),
-        _ => Err(links.place.fault(Refusal::OutOfRange)),
+    fn lose(mut self, directions: u8) -> Result<Command, Fault>
+        ensures { result ≡ lose_of directions self.entry.head (left self.entry.tokens) }
+    {
+        let direction = self.number()?;
+        let letter = self.token()?;
+        let first = self.number()?;
+        let count = self.number()?;
+        Ok(Command::Lose {
+            direction: direction.below(directions)?,
+            kind: letter.named()?,
+            first: first.within(1, LARGEST)?,
+            count: count.within(1, LARGEST)?,
+        })
     }
-}
 
-fn parse_login(mut tokens: Tokens<'_>, head: Place) -> Result<Command, Fault>
-    ensures { result ≡ login_of head (left tokens.entry) }
-{
-    let link = tokens.take_number(head)?;
-    let west = tokens.take_number(head)?;
-    let east = tokens.take_number(head)?;
-    let west_n = tokens.take_number(head)?;
-    let east_n = tokens.take_number(head)?;
-    Ok(Command::Login {
-        link: link.value,
-        west: west.value,
-        east: east.value,
-        west_n: west_n.value,
-        east_n: east_n.value,
-    })
-}
+    // An end, and how many frames are injected or collected there.
+    fn frames(mut self) -> Result<(End, u32), Fault>
+        ensures { result ≡ frames_of self.entry.head (left self.entry.tokens) }
+    {
+        let letter = self.token()?;
+        let count = self.number()?;
+        let end = letter.named()?;
+        Ok((end, count.within(1, 1000)?))
+    }
 
-fn parse_lose(mut tokens: Tokens<'_>, directions: u8, head: Place) -> Result<Command, Fault>
-    ensures { result ≡ lose_of directions head (left tokens.entry) }
-{
-    let direction = tokens.take_number(head)?;
-    let letter = tokens.take(head)?;
-    let first = tokens.take_number(head)?;
-    let count = tokens.take_number(head)?;
-    Ok(Command::Lose {
-        direction: direction.below(directions)?,
-        kind: letter.kind()?,
-        first: first.within(1, LARGEST)?,
-        count: count.within(1, LARGEST)?,
-    })
-}
+    fn step(mut self) -> Result<Command, Fault>
+        ensures { result ≡ step_of self.entry.head (left self.entry.tokens) }
+    {
+        let count = self.number()?.within(1, 10_000)?;
+        Ok(Command::Step { count })
+    }
 
-// An end, and how many frames are injected or collected there.
-fn parse_frames(mut tokens: Tokens<'_>, head: Place) -> Result<(End, u32), Fault>
-    ensures { result ≡ frames_of head (left tokens.entry) }
-{
-    let letter = tokens.take(head)?;
-    let count = tokens.take_number(head)?;
-    let end = letter.end()?;
-    Ok((end, count.within(1, 1000)?))
-}
-
-fn parse_inject(tokens: Tokens<'_>, head: Place) -> Result<Command, Fault>
-    ensures { result ≡ inject_of head (left tokens.entry) }
-{
-    let (end, count) = parse_frames(tokens, head)?;
-    Ok(Command::Inject { end, count })
-}
-
-fn parse_collect(tokens: Tokens<'_>, head: Place) -> Result<Command, Fault>
-    ensures { result ≡ collect_of head (left tokens.entry) }
-{
-    let (end, count) = parse_frames(tokens, head)?;
-    Ok(Command::Collect { end, count })
-}
-
-fn parse_step(mut tokens: Tokens<'_>, head: Place) -> Result<Command, Fault>
-    ensures { result ≡ step_of head (left tokens.entry) }
-{
-    let number = tokens.take_number(head)?;
-    let count = number.within(1, 10_000)?;
-    Ok(Command::Step { count })
-}
-
-pub(crate) fn parse_arguments(
-    keyword: Keyword,
-    tokens: Tokens<'_>,
-    directions: u8,
-    head: Place,
-) -> Result<Command, Fault>
-    ensures { result ≡ arguments_of keyword directions head (left tokens.entry) }
-{
-    match keyword {
-        Keyword::Chain => parse_chain(tokens, head),
-        Keyword::Login => parse_login(tokens, head),
-        Keyword::Lose => parse_lose(tokens, directions, head),
-        Keyword::Inject => parse_inject(tokens, head),
-        Keyword::Collect => parse_collect(tokens, head),
-        Keyword::Step => parse_step(tokens, head),
-        Keyword::Drain => Ok(Command::Drain),
-        Keyword::Page => Ok(Command::Page),
+    // The command of a word with these arguments.
+    pub(crate) fn command(self, keyword: Keyword, directions: u8) -> Result<Command, Fault>
+        ensures { result ≡
+            arguments_of keyword directions self.entry.head (left self.entry.tokens) }
+    {
+        match keyword {
+            Keyword::Chain => self.chain(),
+            Keyword::Login => self.login(),
+            Keyword::Lose => self.lose(directions),
+            Keyword::Inject => self
+                .frames()
+                .map(|(end, count)| Command::Inject { end, count }),
+            Keyword::Collect => self
+                .frames()
+                .map(|(end, count)| Command::Collect { end, count }),
+            Keyword::Step => self.step(),
+            Keyword::Drain => Ok(Command::Drain),
+            Keyword::Page => Ok(Command::Page),
+        }
     }
 }

@@ -1,26 +1,21 @@
 // The commands of a script.
-ghost use Rattle.script.specs.Commands.{arity, directions_of, end_with, keyword_of};
-ghost use Rattle.std.specs.Str.{bytes_eq};
+ghost use Rattle.script.specs.Commands.{arity, directions_of, keyword_of};
+ghost use Rattle.script.specs.declared.fault.Refusal.TheVariants.{UnknownCommand};
+ghost use Rattle.std.specs.Option.{ok_or};
 ghost use Rattle.std.specs.Prelude.{◌≡◌};
 
-use crate::fault::Place;
+use crate::fault::{Place, Refusal};
 use symbol::SymbolKind;
-
-// An end of the chain.
-#[derive(Clone, Copy)]
-pub enum End {
-    West,
-    East,
-}
+use symbol::end::End;
 
 // The links that a chain can have.
-#[derive(Clone, Copy)]
+#[derive(Clone, Copy, PartialEq, Eq, Debug)]
 pub enum Links {
     One,
     Three,
 }
 
-#[derive(Clone, Copy)]
+#[derive(Clone, Copy, PartialEq, Eq, Debug)]
 pub enum Command {
     Chain(Links),
     Login {
@@ -52,14 +47,14 @@ pub enum Command {
 }
 
 // A command, with the place of its first word.
-#[derive(Clone, Copy)]
+#[derive(Clone, Copy, PartialEq, Eq, Debug)]
 pub struct Placed {
     pub command: Command,
     pub place: Place,
 }
 
 // The word that a command begins with.
-#[derive(Clone, Copy)]
+#[derive(Clone, Copy, PartialEq, Eq, Debug)]
 pub(crate) enum Keyword {
     Chain,
     Login,
@@ -69,19 +64,6 @@ pub(crate) enum Keyword {
     Step,
     Drain,
     Page,
-}
-
-impl End {
-    // The end that has this letter.
-    pub fn from_letter(letter: char) -> Option<End>
-        ensures { result ≡ end_with letter }
-    {
-        match letter {
-            'w' => Some(End::West),
-            'e' => Some(End::East),
-            _ => None,
-        }
-    }
 }
 
 impl Links {
@@ -96,40 +78,30 @@ impl Links {
     }
 }
 
-fn same(text: &[u8], word: &[u8]) -> bool
-    ensures { result ≡ bytes_eq text.now word.now }
-{
-    text == word
+// The keyword that a word is, or the refusal of a word that is none.
+impl TryFrom<&[u8]> for Keyword {
+    type Error = Refusal;
+
+    ghost try_from_gives = { λ text r. r ≡ ok_or (keyword_of text.now) UnknownCommand };
+
+    fn try_from(text: &[u8]) -> Result<Self, Refusal> {
+        match text {
+            b"chain" => Ok(Keyword::Chain),
+            b"login" => Ok(Keyword::Login),
+            b"lose" => Ok(Keyword::Lose),
+            b"inject" => Ok(Keyword::Inject),
+            b"collect" => Ok(Keyword::Collect),
+            b"step" => Ok(Keyword::Step),
+            b"drain" => Ok(Keyword::Drain),
+            b"page" => Ok(Keyword::Page),
+            _ => Err(Refusal::UnknownCommand),
+        }
+    }
 }
 
 impl Keyword {
-    // The keyword that a word is.
-    pub(crate) fn from_word(text: &[u8]) -> Option<Keyword>
-        ensures { result ≡ keyword_of text.now }
-    {
-        if same(text, b"chain") {
-            Some(Keyword::Chain)
-        } else if same(text, b"login") {
-            Some(Keyword::Login)
-        } else if same(text, b"lose") {
-            Some(Keyword::Lose)
-        } else if same(text, b"inject") {
-            Some(Keyword::Inject)
-        } else if same(text, b"collect") {
-            Some(Keyword::Collect)
-        } else if same(text, b"step") {
-            Some(Keyword::Step)
-        } else if same(text, b"drain") {
-            Some(Keyword::Drain)
-        } else if same(text, b"page") {
-            Some(Keyword::Page)
-        } else {
-            None
-        }
-    }
-
     // How many words follow it.
-    pub(crate) fn arity(self) -> u8
+    pub(crate) fn arity(self) -> usize
         ensures { result ≡ arity self }
     {
         match self {

@@ -1,15 +1,13 @@
 // How far a script is read.
-ghost use Rattle.std.specs.Prelude.{◌≤◌, length};
+ghost use Rattle.std.specs.Prelude.{◌+◌, ◌<◌, ◌^◌, length};
 
 use crate::order::Progress;
 
-// The place of the next line in the script, the lines before it, and the progress that their commands made.
-#[derive(Clone, Copy)]
+// The lines of a script that are still to come, how many stand before them, and the progress that their commands made.
+#[derive(Clone, Copy, PartialEq, Eq, Debug)]
 pub struct Cursor<'a> {
-    pub(crate) script: &'a [u8],
-    pub(crate) at: usize,
+    pub(crate) rest: &'a [u8],
     pub(crate) done: usize,
     pub(crate) progress: Progress,
-    ghost inside: { at ≤ length script.now },
-    ghost counted: { done ≤ at },
+    ghost counted: { done + length rest.now < 2 ^ 64 },
 }

@@ -3,7 +3,7 @@ ghost use Rattle.std.specs.Prelude.{◌≡◌, ◌≤◌, length};
 ghost use Rattle.script.specs.Line.{command_of, ordered, read_line, read_tokens};
 ghost use Rattle.script.specs.Tokens.{left, seen};
 
-use crate::arguments::parse_arguments;
+use crate::arguments::Arguments;
 use crate::command::{Command, Keyword, Placed};
 use crate::fault::{Fault, Place, Refusal};
 use crate::order::Progress;
@@ -13,7 +13,7 @@ use crate::token::{Token, Tokens};
 const LINE: usize = 80;
 
 // A command that may stand where it stands, and the progress after it.
-#[derive(Clone, Copy)]
+#[derive(Clone, Copy, PartialEq, Eq, Debug)]
 pub(crate) struct Read {
     pub(crate) placed: Placed,
     pub(crate) progress: Progress,
@@ -24,13 +24,11 @@ fn parse_command(first: Token<'_>, tokens: Tokens<'_>, directions: u8) -> Result
     ensures { result ≡ command_of directions (seen first.entry) (left tokens.entry) }
 {
     let head = first.place();
-    let Some(keyword) = Keyword::from_word(first.text()) else {
-        return Err(head.fault(Refusal::UnknownCommand));
-    };
-    if !tokens.has(keyword.arity()) {
+    let keyword = Keyword::try_from(first.text()).map_err(|refusal| head.fault(refusal))?;
+    if tokens.count() != keyword.arity() {
         return Err(head.fault(Refusal::WordCount));
     }
-    parse_arguments(keyword, tokens, directions, head)
+    Arguments { tokens, head }.command(keyword, directions)
 }
 
 // The command, if it may stand here.
@@ -39,13 +37,13 @@ fn read_ordered(first: Token<'_>, tokens: Tokens<'_>, progress: Progress) -> Res
 {
     let place = first.place();
     let command = parse_command(first, tokens, progress.directions)?;
-    match progress.after(command) {
-        Ok(progress) => Ok(Read {
-            placed: Placed { command, place },
-            progress,
-        }),
-        Err(refusal) => Err(place.fault(refusal)),
-    }
+    let progress = progress
+        .after(command)
+        .map_err(|refusal| place.fault(refusal))?;
+    Ok(Read {
+        placed: Placed { command, place },
+        progress,
+    })
 }
 
 fn read_tokens(mut tokens: Tokens<'_>, progress: Progress) -> Result<Option<Read>, Fault>

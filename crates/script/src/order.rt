@@ -11,7 +11,7 @@ const DIRECTIONS: usize = 6;
 const LOSES: u8 = 16;
 
 // How far a script has come.
-#[derive(Clone, Copy)]
+#[derive(Clone, Copy, PartialEq, Eq, Debug)]
 pub(crate) enum Stage {
     Bare,
     Cabled,
@@ -20,7 +20,7 @@ pub(crate) enum Stage {
 }
 
 // What the order of the commands to come depends on: the stage, the directions of the chain, and the loses of each.
-#[derive(Clone, Copy)]
+#[derive(Clone, Copy, PartialEq, Eq, Debug)]
 pub struct Progress {
     stage: Stage,
     pub(crate) directions: u8,
@@ -64,12 +64,14 @@ impl Progress {
     fn lose(mut self, direction: u8) -> Result<Progress, Refusal>
         ensures { result ≡ one_more_lose direction self }
     {
-        let d = direction as usize;
-        if d >= DIRECTIONS || self.loses[d] >= LOSES {
-            return Err(Refusal::TooManyLoses);
+        let d = usize::from(direction);
+        match self.loses.get(d) {
+            Some(&loses) if loses < LOSES => {
+                self.loses[d] = loses + 1;
+                Ok(self)
+            }
+            _ => Err(Refusal::TooManyLoses),
         }
-        self.loses[d] += 1;
-        Ok(self)
     }
 
     // What a command adds at its stage.
@@ -91,9 +93,7 @@ impl Progress {
     pub fn after(self, command: Command) -> Result<Progress, Refusal>
         ensures { result ≡ after self command }
     {
-        match self.stage.after(command) {
-            Some(stage) => self.note(command, stage),
-            None => Err(Refusal::OutOfOrder),
-        }
+        let stage = self.stage.after(command).ok_or(Refusal::OutOfOrder)?;
+        self.note(command, stage)
     }
 }

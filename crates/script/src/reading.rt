@@ -1,5 +1,5 @@
 // A script read command by command, and checked whole.
-ghost use Rattle.std.specs.Prelude.{◌≡◌, ◌+◌, ◌<◌, ◌≤◌, length};
+ghost use Rattle.std.specs.Prelude.{◌≡◌};
 ghost use Rattle.script.specs.Judged.{Judged};
 ghost use Rattle.script.specs.Laws.{Lined};
 ghost use Rattle.script.specs.Script.{Stepped, bytes, commands, first_then, next, next_line, started, state, verdict};
@@ -11,7 +11,7 @@ use crate::cursor::Cursor;
 use crate::fault::{Fault, Place, Refusal};
 use crate::line::read_line;
 use crate::order::Progress;
-use crate::scan::{Run, run_end};
+use crate::scan::run_len;
 
 // The most bytes of a script.
 const SCRIPT: usize = 16_384;
@@ -23,8 +23,7 @@ impl<'a> Cursor<'a> {
         ensures law { Lined script.now (lines script.now) }
     {
         Cursor {
-            script,
-            at: 0,
+            rest: script,
             done: 0,
             progress: Progress::new(),
         }
@@ -34,18 +33,16 @@ impl<'a> Cursor<'a> {
     fn next_line(&mut self) -> Option<&'a [u8]>
         ensures { (option_map bytes result, state self.new) ≡ next_line (state self.old) }
     {
-        let start = self.at;
-        if start >= self.script.len() {
+        if self.rest.is_empty() {
             return None;
         }
-        let end = run_end(self.script, start, Run::Line);
-        self.at = if end < self.script.len() {
-            end + 1
-        } else {
-            end
+        let (line, ended) = self.rest.split_at(run_len(self.rest, |b| b != b'\n'));
+        self.rest = match ended {
+            [] => ended,
+            [_, rest @ ..] => rest,
         };
         self.done += 1;
-        Some(&self.script[start..end])
+        Some(line)
     }
 
     // The next command, or the first fault; none at the end.
@@ -73,6 +70,6 @@ pub fn check(script: &[u8]) -> Result<(), Fault>
         return Err(Place { line: 0, byte: 0 }.fault(Refusal::TooLong));
     }
     let mut cursor = Cursor::new(script);
-    'commands: while let Some(_) = cursor.next_command()? {}
+    'commands: while cursor.next_command()?.is_some() {}
     Ok(())
 }

@@ -1,15 +1,11 @@
 // The words of a line as tokens, which borrow their bytes.
-ghost use Rattle.std.specs.Prelude.{◌≡◌, ◌≤◌, length, ◌==◌};
-ghost use Rattle.script.specs.Laws.{Parted};
-ghost use Rattle.script.specs.Text.{words};
-ghost use Rattle.script.specs.Tokens.{classified, left, line_tokens, seen, split};
-ghost use Rattle.std.specs.Option.{option_map};
+ghost use Rattle.std.specs.Prelude.{◌+◌, ◌<◌, ◌^◌, length};
 
 use crate::fault::Place;
-use crate::scan::{Run, read_number, run_end};
+use crate::scan::{read_number, run_len};
 
 // A number, a letter or another word: its bytes, what they say, and their place.
-#[derive(Clone, Copy)]
+#[derive(Clone, Copy, PartialEq, Eq, Debug)]
 pub enum Token<'a> {
     Number(&'a [u8], u32, Place),
     Letter(&'a [u8], char, Place),
@@ -17,6 +13,9 @@ pub enum Token<'a> {
 }
 
 impl<'a> Token<'a> {
+    ghost use Rattle.std.specs.Prelude.{◌≡◌};
+    ghost use Rattle.script.specs.Tokens.{classified, seen};
+
     // The token that a word is.
     fn from_word(text: &'a [u8], place: Place) -> Token<'a>
         ensures { seen result ≡ classified text.now place }
@@ -34,9 +33,8 @@ impl<'a> Token<'a> {
         ensures { result ≡ (seen self.entry).place }
     {
         match self {
-            Token::Number(_, _, place) => place,
-            Token::Letter(_, _, place) => place,
-            Token::Word(_, place) => place,
+            Token::Number(_, _, place) | Token::Letter(_, _, place) | Token::Word(_, place) =>
+                place,
         }
     }
 
@@ -44,57 +42,62 @@ impl<'a> Token<'a> {
         ensures { result.now ≡ (seen self.entry).text }
     {
         match self {
-            Token::Number(text, _, _) => text,
-            Token::Letter(text, _, _) => text,
-            Token::Word(text, _) => text,
+            Token::Number(text, _, _) | Token::Letter(text, _, _) | Token::Word(text, _) => text,
         }
     }
 }
 
-// The tokens of a line from `at` on.
-#[derive(Clone, Copy)]
+// The tokens of a line that are still to come: the bytes left, and how many stand before them.
+#[derive(Clone, Copy, PartialEq, Eq, Debug)]
 pub struct Tokens<'a> {
-    text: &'a [u8],
-    line: usize,
+    rest: &'a [u8],
     at: usize,
+    line: usize,
+    ghost counted: { at + length rest.now < 2 ^ 64 },
 }
 
 impl<'a> Tokens<'a> {
+    ghost use Rattle.std.specs.Prelude.{◌≡◌};
+    ghost use Rattle.script.specs.Laws.{Parted};
+    ghost use Rattle.script.specs.Text.{words};
+    ghost use Rattle.script.specs.Tokens.{left, line_tokens};
+
     pub fn new(text: &'a [u8], line: usize) -> Tokens<'a>
         ensures tokens { left result ≡ line_tokens line text.now }
         ensures law { Parted 1 text.now (words 1 text.now) }
     {
-        Tokens { text, line, at: 0 }
+        Tokens {
+            rest: text,
+            at: 0,
+            line,
+        }
     }
+}
+
+impl<'a> Iterator for Tokens<'a> {
+    ghost use Rattle.std.specs.Iterator.{YieldsFirstBy, item_count};
+    ghost use Rattle.script.specs.Tokens.{left, seen};
+
+    type Item = Token<'a>;
+
+    ghost next_gives = { YieldsFirstBy seen left };
+
+    ghost remaining = { item_count left };
 
     // The next token, if one is left.
-    pub fn next(&mut self) -> Option<Token<'a>>
-        ensures { (option_map seen result, left self.new) ≡ split (left self.old) }
-    {
-        let start = run_end(self.text, self.at, Run::Gap);
-        if start >= self.text.len() {
-            self.at = start;
+    fn next(&mut self) -> Option<Token<'a>> {
+        let (gap, rest) = self.rest.split_at(run_len(self.rest, |b| b == b' '));
+        let (word, rest) = rest.split_at(run_len(rest, |b| b != b' '));
+        let start = self.at + gap.len();
+        self.at = start + word.len();
+        self.rest = rest;
+        if word.is_empty() {
             return None;
         }
-        let end = run_end(self.text, start, Run::Word);
-        self.at = end;
         let place = Place {
             line: self.line,
             byte: start + 1,
         };
-        Some(Token::from_word(&self.text[start..end], place))
-    }
-
-    // Whether just `count` tokens are left.
-    pub(crate) fn has(self, count: u8) -> bool
-        ensures { result ≡ (length (left self.entry) == count) }
-    {
-        let mut tokens = self;
-        for _i in 0..count {
-            if tokens.next().is_none() {
-                return false;
-            }
-        }
-        tokens.next().is_none()
+        Some(Token::from_word(word, place))
     }
 }

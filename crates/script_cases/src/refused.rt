@@ -159,11 +159,11 @@ fn out_of_order(rt: HostRuntime) {
 fn too_many_loses(rt: HostRuntime) -> Result<(), Fail> {
     let head = b"chain 1\n";
     let script = repeated(rt.alloc(), head, b"lose 0 f 1 1\n", 17, b"")?;
-    assert_eq!(rt; told(script.as_slice()), (21, 18, 1));
+    assert_eq!(rt; told(script.as_slice()), Err((21, 18, 1)));
     let script = repeated(rt.alloc(), head, b"lose 0 f 1 1\n", 16, b"  lose 0 c 1 1\n")?;
-    assert_eq!(rt; told(script.as_slice()), (21, 18, 3));
+    assert_eq!(rt; told(script.as_slice()), Err((21, 18, 3)));
     let script = repeated(rt.alloc(), head, b"lose 0 f 1 1\n", 16, b"lose 0 f 0 1\n")?;
-    assert_eq!(rt; told(script.as_slice()), (19, 18, 10));
+    assert_eq!(rt; told(script.as_slice()), Err((19, 18, 10)));
     let script = repeated(
         rt.alloc(),
         head,
@@ -171,6 +171,6 @@ fn too_many_loses(rt: HostRuntime) -> Result<(), Fail> {
         16,
         b"page\nlose 0 f 1 1\n",
     )?;
-    assert_eq!(rt; told(script.as_slice()), (20, 19, 1));
+    assert_eq!(rt; told(script.as_slice()), Err((20, 19, 1)));
     Ok(())
 }

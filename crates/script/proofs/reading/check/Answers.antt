@@ -1,4 +1,4 @@
-use Rattle.std.proofs.Common.{Ok, Err, sym, ap, ◌∙◌, arith}
+use Rattle.std.proofs.Common.{Err, sym, ap, ◌∙◌, arith}
 use Rattle.std.proofs.lemmas.Result.{err_from_is_err_and}
 use Rattle.script.specs.Script.{state, ends}
 use Rattle.script.proofs.Passes.{fewer, ends_none}
@@ -16,9 +16,9 @@ returns-in_err-next_command c =
 pub commands-smaller : goal.commands-smaller
 commands-smaller c =
     let t = state c.next_command.new.self in
-    let some = c.in_ok-next_command.was ∙ ap Ok c.in-Some.is in
-    fewer (state c.commands.cursor) t c.in-Some.field-0
-    (ap (λ r. (r, t)) (sym some) ∙ c.next_command.ensures.step)
+    fewer (state c.commands.cursor) t c.in_ok-next_command.field-0
+    (ap (λ r. (r, t)) (sym c.in_ok-next_command.was) ∙ c.next_command.ensures.step)
+    (sym c.is_some.ensures ∙ c.if-is_some.true)
 
 pub returns : goal.returns
 returns c =
@@ -27,5 +27,5 @@ returns c =
     let t = state c.next_command.new.self in
     let none =
     ends_none s t c.in_ok-next_command.field-0 c.in_ok-next_command.ensures.passes
-    c.in_default.is in
+    (sym c.is_some.ensures ∙ c.if-is_some.false) in
     record { answer = none ∙ c.commands.invariant ∙ verdict_short bs (omega arith); law = judged bs }
