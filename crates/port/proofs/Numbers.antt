@@ -14,5 +14,5 @@ length_without k (x ∷ xs) = grind (arith, common_steps, length_without k xs)
 
 -- a number that is handed out makes the list shorter as it is taken out
 pub fewer_without : (k : ℕ) (xs : List ℕ) → among k xs ≡ true → length (without k xs) < length xs
-fewer_without k [] is = absurd (let no_way : ⊥ = cc in no_way)
+fewer_without k [] is = cc
 fewer_without k (x ∷ xs) is = grind (arith, common_steps, length_without k xs, fewer_without k xs)

@@ -16,7 +16,7 @@ pub mod taking;
 use ring::Ring;
 use symbol::Frame;
 
-// Contracts read these by specs/View.antt: a Copy type's Model must give its fields back, and a ring hides its places.
+// Contracts read these by specs/View.antt: a ring's view cannot give its places back, as a Copy type's Model must.
 
 // The credit towards the other end of the link: what is in use never passes the limit.
 #[derive(Clone, Copy)]

@@ -7,6 +7,7 @@ use super::{Inflow, Modulus, Outflow};
 use std::mem;
 
 impl Modulus {
+    // A count modulo 2^N.
     #[tactic(auto, using(crate::proofs::Masks::shl, std::proofs::lemmas::Nat::and_mask))]
     fn masked(self, count: u16) -> u16
         ensures { result ≡ count % 2 ^ self.n }
