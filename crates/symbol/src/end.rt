@@ -1,6 +1,5 @@
 // The two ends of a chain.
-ghost use Rattle.symbol.specs.Ends.{EndRead, end_with};
-ghost use Rattle.std.specs.Prelude.{◌≡◌};
+ghost use Rattle.symbol.specs.Ends.{EndRead};
 
 use crate::UnknownLetter;
 
@@ -8,19 +7,6 @@ use crate::UnknownLetter;
 pub enum End {
     West,
     East,
-}
-
-impl End {
-    // The end that has this letter.
-    pub fn from_letter(letter: char) -> Option<End>
-        ensures { result ≡ end_with letter }
-    {
-        match letter {
-            'w' => Some(End::West),
-            'e' => Some(End::East),
-            _ => None,
-        }
-    }
 }
 
 // The end that has this letter.

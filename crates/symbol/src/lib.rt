@@ -1,7 +1,7 @@
 // What travels on a link.
 #![tactic(auto)]
 
-ghost use Rattle.symbol.specs.Symbols.{KindRead, LettersTellKinds, kind_of, kind_with, letter, noted_lost};
+ghost use Rattle.symbol.specs.Symbols.{KindRead, kind_of, letter, noted_lost};
 ghost use Rattle.std.specs.Prelude.{◌≡◌};
 
 pub mod end;
@@ -70,20 +70,6 @@ impl SymbolKind {
             SymbolKind::RRdy => b'r',
             SymbolKind::Mark(Mark::BbScS) => b's',
             SymbolKind::Mark(Mark::BbScR) => b'c',
-        }
-    }
-
-    // The kind that has this letter.
-    pub fn from_letter(letter: char) -> Option<SymbolKind>
-        ensures value { result ≡ kind_with letter }
-        ensures law { LettersTellKinds }
-    {
-        match letter {
-            'f' => Some(SymbolKind::Frame),
-            'r' => Some(SymbolKind::RRdy),
-            's' => Some(SymbolKind::Mark(Mark::BbScS)),
-            'c' => Some(SymbolKind::Mark(Mark::BbScR)),
-            _ => None,
         }
     }
 }
