@@ -61,6 +61,10 @@ mod tests {
     use std::process::Abort;
     use symbol::Note;
 
+    const O: Note = Note::Sound;
+
+    const X: Note = Note::Lost;
+
     // Fills an idle channel, finds it full, and takes all again in order once the delay has passed.
     fn fills<T: Channel>(rt: &impl Abort, channel: &mut T, places: u32, delay: u32) {
         assert!(rt; channel.is_idle());
@@ -80,11 +84,10 @@ mod tests {
         assert!(rt; channel.is_idle());
     }
 
-    // Sends the frames 1 to 6: a digit 1 stands for a lost one.
-    fn loses(rt: &impl Abort, entries: &[(u32, u32)], marks: [u8; 6]) {
+    // Sends the frames 1 to 6, of which the ones at an X come lost.
+    fn loses(rt: &impl Abort, entries: &[(u32, u32)], notes: [Note; 6]) {
         let mut wire = lossy_wire(SymbolKind::Frame, entries);
-        for mark in marks {
-            let note = if mark == 1 { Note::Lost } else { Note::Sound };
+        for note in notes {
             assert_eq!(rt; sent(&mut wire, F), Some(note));
         }
     }
@@ -127,13 +130,13 @@ mod tests {
 
     #[test]
     fn entries_overlap_touch_and_reach_the_top(rt: HostRuntime) {
-        loses(&rt, &[], [0, 0, 0, 0, 0, 0]);
-        loses(&rt, &[(2, 3), (3, 3)], [0, 1, 1, 1, 1, 0]);
-        loses(&rt, &[(1, 2), (3, 2)], [1, 1, 1, 1, 0, 0]);
-        loses(&rt, &[(6, 1), (2, 1)], [0, 1, 0, 0, 0, 1]);
-        loses(&rt, &[(0, 2), (3, 0)], [1, 0, 0, 0, 0, 0]);
-        loses(&rt, &[(5, 4294967295)], [0, 0, 0, 0, 1, 1]);
-        loses(&rt, &[(4294967295, 4294967295)], [0, 0, 0, 0, 0, 0]);
+        loses(&rt, &[], [O, O, O, O, O, O]);
+        loses(&rt, &[(2, 3), (3, 3)], [O, X, X, X, X, O]);
+        loses(&rt, &[(1, 2), (3, 2)], [X, X, X, X, O, O]);
+        loses(&rt, &[(6, 1), (2, 1)], [O, X, O, O, O, X]);
+        loses(&rt, &[(0, 2), (3, 0)], [X, O, O, O, O, O]);
+        loses(&rt, &[(5, 4294967295)], [O, O, O, O, X, X]);
+        loses(&rt, &[(4294967295, 4294967295)], [O, O, O, O, O, O]);
     }
 
     #[test]
