@@ -1,15 +1,27 @@
 // Records written to sheets with room and without.
 
 use eventlog::event::{Event, ItemKind};
+use eventlog::sheet::Sheet;
 use eventlog::worked::fourth_tick;
-use eventlog::write::{write_event, write_events};
 use std::test::*;
 use symbol::{Frame, Symbol};
+
+fn write_all(bytes: &mut [u8], used: usize, events: &[Event]) -> usize {
+    let mut sheet = Sheet::new(bytes, used);
+    sheet.write_all(events);
+    sheet.used()
+}
+
+fn write(bytes: &mut [u8], used: usize, event: Event) -> usize {
+    let mut sheet = Sheet::new(bytes, used);
+    sheet.write(event);
+    sheet.used()
+}
 
 #[test]
 fn four_records(rt: HostRuntime) {
     let mut sheet = [0xAAu8; 22];
-    assert_eq!(rt; write_events(&mut sheet, 1, &fourth_tick()), 21);
+    assert_eq!(rt; write_all(&mut sheet, 1, &fourth_tick()), 21);
     assert_eq!(rt;
         sheet,
         [
@@ -23,14 +35,14 @@ fn four_records(rt: HostRuntime) {
 fn exact_and_short_room(rt: HostRuntime) {
     let put = Event::Item(ItemKind::Put, 3, Symbol::Frame(Frame { number: 258 }));
     let mut exact = [0xAAu8; 9];
-    assert_eq!(rt; write_event(&mut exact, 1, put), 9);
+    assert_eq!(rt; write(&mut exact, 1, put), 9);
     assert_eq!(rt; exact, [0xAA, 0xF0, 2, 3, b'f', 0, 0, 1, 2]);
     let mut short = [0xAAu8; 8];
-    assert_eq!(rt; write_event(&mut short, 1, put), 1);
+    assert_eq!(rt; write(&mut short, 1, put), 1);
     assert_eq!(rt; short, [0xAA; 8]);
     // past the end no byte is left
-    assert_eq!(rt; write_event(&mut short, 9, put), 9);
-    assert_eq!(rt; write_event(&mut short, usize::MAX, put), usize::MAX);
+    assert_eq!(rt; write(&mut short, 9, put), 9);
+    assert_eq!(rt; write(&mut short, usize::MAX, put), usize::MAX);
     assert_eq!(rt; short, [0xAA; 8]);
 }
 
@@ -40,6 +52,6 @@ fn one_left_out(rt: HostRuntime) {
     let put = Event::Item(ItemKind::Put, 3, Symbol::Frame(Frame { number: 1 }));
     let rrdy = Event::Item(ItemKind::Got, 2, Symbol::RRdy);
     let mut sheet = [0xAAu8; 6];
-    assert_eq!(rt; write_events(&mut sheet, 1, &[put, rrdy]), 5);
+    assert_eq!(rt; write_all(&mut sheet, 1, &[put, rrdy]), 5);
     assert_eq!(rt; sheet, [0xAA, 0xE0, 3, 2, b'r', 0xAA]);
 }
