@@ -2,8 +2,7 @@
 #![tactic(auto)]
 
 use anyhow::bail;
-use listing::part::list_part;
-use reader::reader::Reader;
+use listing::part::write_listing;
 use std::io::{Read, Write};
 use std::process::ExitCode;
 use std::{env, fs};
@@ -47,21 +46,6 @@ fn read_bytes(rt: &HostRuntime, file: &Option<String>) -> anyhow::Result<Vec<u8>
     }
 }
 
-// The listing can be many times as long as the log, so it is printed part by part.
-fn print_listing(rt: &HostRuntime, log: &[u8]) -> anyhow::Result<()> {
-    let mut reader = Reader::new(log);
-    let mut text = String::new(rt.alloc());
-    for _ in 0..u64::MAX {
-        let more = list_part(&mut reader, &mut text)?;
-        rt.stdout().write_all(text.as_bytes())?;
-        if !more {
-            break;
-        }
-        text.clear();
-    }
-    Ok(())
-}
-
 fn print_summary(rt: &HostRuntime, log: &[u8]) -> anyhow::Result<()> {
     let mut text = String::new(rt.alloc());
     write_summary(&Totals::of(log), &mut text)?;
@@ -75,7 +59,7 @@ fn run(rt: &HostRuntime) -> anyhow::Result<()> {
     if request.summary {
         print_summary(rt, log.as_slice())
     } else {
-        print_listing(rt, log.as_slice())
+        write_listing(rt.alloc(), log.as_slice(), &mut rt.stdout())
     }
 }
 

@@ -1,7 +1,6 @@
 // Logs as bytes, each with the number of its records that are read, and the refusal and its place where one is damaged.
 
 use reader::read::read_log;
-use reader::record::BadRecord;
 use std::alloc::Global;
 use std::process::Abort;
 use std::test::*;
@@ -10,33 +9,23 @@ use std::test::*;
 struct Case<'a> {
     log: &'a [u8],
     records: usize,
-    // 0 where the whole log is read
-    refused: u8,
-    place: usize,
+    // the number of the refusal and its place: none where the whole log is read
+    bad: Option<(u8, usize)>,
 }
 
 fn read<'a>(log: &'a [u8], records: usize) -> Case<'a> {
     Case {
         log,
         records,
-        refused: 0,
-        place: 0,
+        bad: None,
     }
 }
 
-fn refused<'a>(log: &'a [u8], records: usize, refused: u8, place: usize) -> Case<'a> {
+fn refused<'a>(log: &'a [u8], records: usize, number: u8, place: usize) -> Case<'a> {
     Case {
         log,
         records,
-        refused,
-        place,
-    }
-}
-
-fn told(bad: Option<BadRecord>) -> (u8, usize) {
-    match bad {
-        Some(bad) => (bad.refusal.number(), bad.place),
-        None => (0, 0),
+        bad: Some((number, place)),
     }
 }
 
@@ -44,7 +33,8 @@ fn check_all(rt: &impl Abort, alloc: Global, cases: &[Case]) -> Result<(), Fail>
     for case in cases {
         let reading = read_log(alloc, case.log)?;
         assert_eq!(rt; reading.records.len(), case.records);
-        assert_eq!(rt; told(reading.bad), (case.refused, case.place));
+        let bad = reading.bad.map(|bad| (u8::from(bad.refusal), bad.place));
+        assert_eq!(rt; bad, case.bad);
     }
     Ok(())
 }
