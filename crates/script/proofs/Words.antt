@@ -1,10 +1,20 @@
 -- How the words of a line begin, gap by gap and word by word.
-use Rattle.std.proofs.Common.{◌≡◌, ℕ, suc, ◌+◌, ◌<◌, ◌≤◌, Bool, true, false, eqb, List, [], ◌∷◌, length}
+use Rattle.std.proofs.Common.{◌≡◌, ℕ, suc, ◌+◌, ◌<◌, ◌≤◌, Bool, true, false, eqb, List, [], ◌∷◌, ◌++◌, length}
 use Rattle.std.proofs.Common.{take, drop, sym, refl, ap, ◌∙◌, add-zero, add-suc, suc-add, add-one, one-add}
 use Rattle.std.proofs.Common.{arith}
-use Rattle.std.specs.List.{prefix_len}
+use Rattle.std.specs.List.{prefix_len, take_while}
+use Rattle.std.proofs.Math.Seq.{drop-append_seam}
+use Rattle.std.proofs.lemmas.List.Folds.{length-prefix_len}
 use Rattle.script.specs.Text.{in_gap, in_word, Word, words, goes_on, attached}
 use Rattle.script.specs.Tokens.{placed}
+
+-- a run at the front, and what is behind it
+pub run_is : (p : ℕ → Bool) (bs front back : List ℕ) → front ≡ take_while p bs → bs ≡ front ++ back
+    → (length front ≡ prefix_len p bs) × (back ≡ drop (length front) bs)
+run_is p bs front back is whole = (
+  ap length is ∙ length-prefix_len p bs,
+  sym (ap (drop (length front)) whole ∙ drop-append_seam front back),
+)
 
 -- the words after a gap are the words
 gap_step : (at b : ℕ) (bs : List ℕ) (v : Bool) → eqb b 32 ≡ v
@@ -60,41 +70,42 @@ no_ink : (bs : List ℕ) → InkFirst bs → prefix_len in_word bs ≡ 0 → bs 
 no_ink [] ink h = refl
 no_ink (b ∷ bs) ink h = let k = rw (ink, one-add) at h in absurd (omega arith)
 
--- bytes cut into a gap, a run behind it, and what is left
+-- bytes cut into a gap, a word behind it, and what is left
 pub record Cut (bs gap word left : List ℕ) : Type 0 where
   pub behind : List ℕ
-  pub gap_len : length gap ≡ prefix_len in_gap bs
-  pub behind_is : behind ≡ drop (length gap) bs
-  pub word_len : length word ≡ prefix_len in_word behind
-  pub word_is : word ≡ take (length word) behind
-  pub left_is : left ≡ drop (length word) behind
+  pub gap_is : gap ≡ take_while in_gap bs
+  pub whole : bs ≡ gap ++ behind
+  pub word_is : word ≡ take_while in_word behind
+  pub behind_is : behind ≡ word ++ left
 
 module _ (at : ℕ) (bs gap word left : List ℕ) (cut : Cut bs gap word left) where
   to_behind : (words (at + 1) bs ≡ words (at + length gap + 1) cut.behind) × InkFirst cut.behind
   to_behind =
-      let n = cut.gap_len in
-      let rest = cut.behind_is in
+      let run = run_is in_gap bs gap cut.behind cut.gap_is cut.whole in
+      let n = run.0 in
+      let rest = run.1 in
       let start : at + 1 + length gap ≡ at + length gap + 1 = omega arith in
       (after_gap (at + 1) bs ∙ rw (← n, start, ← rest), rw (rest, n) (past_gap bs))
 
   -- past the last word
   pub no_word : length word ≡ 0 → (words (at + 1) bs ≡ []) × (left ≡ [])
   no_word none =
-      let n = cut.word_len in
-      let empty : cut.behind ≡ [] = no_ink cut.behind to_behind.1 (sym n ∙ none) in
-      (to_behind.0 ∙ ap (words (at + length gap + 1)) empty, cut.left_is ∙ rw (none, empty))
+      let run = run_is in_word cut.behind word left cut.word_is cut.behind_is in
+      let empty : cut.behind ≡ [] = no_ink cut.behind to_behind.1 (sym run.0 ∙ none) in
+      (to_behind.0 ∙ ap (words (at + length gap + 1)) empty, run.1 ∙ rw (none, empty))
 
   -- the word behind the gap is the first
   pub first_word : 0 < length word
       → words (at + 1) bs
       ≡ record { byte = at + length gap + 1; text = word } ∷ words (at + length gap + length word + 1) left
   first_word some =
-      let n = cut.word_len in
+      let run = run_is in_word cut.behind word left cut.word_is cut.behind_is in
+      let n = run.0 in
+      let rest = run.1 in
       let is = cut.word_is in
-      let rest = cut.left_is in
       let end : at + length gap + 1 + length word ≡ at + length gap + length word + 1 = omega arith in
       to_behind.0 ∙ at_ink (at + length gap + 1) cut.behind to_behind.1 (omega arith)
-      ∙ rw (← n, ← is, end, ← rest)
+      ∙ rw (← is, ← n, end, ← rest)
 
 -- no more words than bytes
 attached_few : (at b : ℕ) (g : Bool) (ws : List Word) → length (attached at b g ws) ≤ length ws + 1

@@ -11,7 +11,7 @@ use crate::cursor::Cursor;
 use crate::fault::{Fault, Place, Refusal};
 use crate::line::read_line;
 use crate::order::Progress;
-use crate::scan::run_len;
+use crate::scan::split_run;
 
 // The most bytes of a script.
 const SCRIPT: usize = 16_384;
@@ -36,7 +36,7 @@ impl<'a> Cursor<'a> {
         if self.rest.is_empty() {
             return None;
         }
-        let (line, ended) = self.rest.split_at(run_len(self.rest, |b| b != b'\n'));
+        let (line, ended) = split_run(self.rest, |b| b != b'\n');
         self.rest = match ended {
             [] => ended,
             [_, rest @ ..] => rest,

@@ -1,18 +1,19 @@
-// How long runs of bytes are, and what digits write.
-ghost use Rattle.std.specs.Prelude.{◌≡◌};
+// Where runs of bytes end, and what digits write.
+ghost use Rattle.std.specs.Prelude.{◌≡◌, ◌++◌, ℕ, Bool};
 ghost use Rattle.script.specs.Text.{Computes, number_of};
-ghost use Rattle.std.specs.Prelude.{ℕ, Bool};
-ghost use Rattle.std.specs.List.{prefix_len};
+ghost use Rattle.std.specs.List.{take_while};
 
 // The most digits of a number.
 const DIGITS: usize = 8;
 
-// How many bytes at the front are in a run.
-pub(crate) fn run_len<F: Fn(u8) -> bool>(text: &[u8], in_run: F) -> usize
+// The bytes at the front that are in a run, and those behind it.
+pub(crate) fn split_run<F: Fn(u8) -> bool>(text: &[u8], in_run: F) -> (&[u8], &[u8])
     requires { F.IsAlwaysCallable in_run }
-    ensures { (p : ℕ → Bool) → Computes (F.post in_run) p → result ≡ prefix_len p text.now }
+    ensures run { (p : ℕ → Bool) → Computes (F.post in_run) p →
+        result.0.now ≡ take_while p text.now }
+    ensures whole { text.now ≡ result.0.now ++ result.1.now }
 {
-    text.iter().take_while(|b| in_run(**b)).count()
+    text.split_at(text.iter().take_while(|b| in_run(**b)).count())
 }
 
 // The number that 1 to 8 digits write.

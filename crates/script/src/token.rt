@@ -2,7 +2,7 @@
 ghost use Rattle.std.specs.Prelude.{◌+◌, ◌<◌, ◌^◌, length};
 
 use crate::fault::Place;
-use crate::scan::{read_number, run_len};
+use crate::scan::{read_number, split_run};
 
 // A number, a letter or another word: its bytes, what they say, and their place.
 #[derive(Clone, Copy, PartialEq, Eq, Debug)]
@@ -86,8 +86,8 @@ impl<'a> Iterator for Tokens<'a> {
 
     // The next token, if one is left.
     fn next(&mut self) -> Option<Token<'a>> {
-        let (gap, rest) = self.rest.split_at(run_len(self.rest, |b| b == b' '));
-        let (word, rest) = rest.split_at(run_len(rest, |b| b != b' '));
+        let (gap, rest) = split_run(self.rest, |b| b == b' ');
+        let (word, rest) = split_run(rest, |b| b != b' ');
         let start = self.at + gap.len();
         self.at = start + word.len();
         self.rest = rest;
