@@ -34,6 +34,8 @@ impl<B: Bank> Inner<B> {
         p.number == 0 || p.number == self.last_port().number
     }
 
+    // That p is a port of this chain ties two values, so it stands here and not in a type: it holds in this file alone.
+
     // The oldest frame that waits for port p.
     fn source(&self, p: PortNumber) -> Option<Frame>
         requires { p.number < 2 * self.now.links }
