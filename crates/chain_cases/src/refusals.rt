@@ -40,9 +40,10 @@ fn log_in<B: Bank>(
 }
 
 // Buffers, N and links that a login refuses, in the order in which they are asked after.
-fn try_logins<B: Bank>(chain: &mut Chain<B, Cabled>) -> [Option<u8>; 9] {
-    [
-        log_in(chain, 0, (32, 1), (15, 15)),
+// Only the first is accepted.
+fn try_logins<B: Bank>(chain: &mut Chain<B, Cabled>) -> (Option<u8>, [Option<u8>; 8]) {
+    let accepted = log_in(chain, 0, (32, 1), (15, 15));
+    let others = [
         log_in(chain, 1, (99, 0), (99, 98)),
         log_in(chain, 256, (1, 1), (0, 0)),
         log_in(chain, 0, (0, 1), (16, 15)),
@@ -51,7 +52,8 @@ fn try_logins<B: Bank>(chain: &mut Chain<B, Cabled>) -> [Option<u8>; 9] {
         log_in(chain, 0, (1, 1), (16, 0)),
         log_in(chain, 0, (1, 1), (0, 99_999_999)),
         log_in(chain, 0, (1, 1), (1, 2)),
-    ]
+    ];
+    (accepted, others)
 }
 
 // A sheet without room leaves its bytes, and an outbox takes 32 frames.
@@ -98,9 +100,18 @@ fn one_link_refuses(rt: HostRuntime) {
     let mut draining = running.drain();
     let waits = collect_refused(&mut draining, End::West);
     let _bank = draining.close();
-    assert_eq!(rt; logins[0], None);
-    assert_eq!(rt; logins[1..], [1, 1, 2, 2, 2, 3, 3, 4].map(Some));
-    assert_eq!(rt; calls, [9; 3].map(Some));
+    let numbers = [
+        Some(1),
+        Some(1),
+        Some(2),
+        Some(2),
+        Some(2),
+        Some(3),
+        Some(3),
+        Some(4),
+    ];
+    assert_eq!(rt; logins, (None, numbers));
+    assert_eq!(rt; calls, [Some(9); 3]);
     assert_eq!(rt; untouched, [0xAA; 64]);
     assert_eq!(rt; outbox, (32, Some(6), None));
     assert_eq!(rt; waits, Some(7));
