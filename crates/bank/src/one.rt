@@ -17,9 +17,9 @@ impl<C: Channel> Bank for One<C> {
 
     ghost model = { one_state C.Channel.model };
 
-    ghost calls = { one C.Channel.letter C.Channel.calls };
+    ghost calls = { one C.Channel.LETTER C.Channel.calls };
 
-    ghost lawful = { λ c. one_lawful C.Channel.letter C.Channel.calls c (C.Channel.lawful c) };
+    ghost lawful = { λ c. one_lawful C.Channel.LETTER C.Channel.calls c (C.Channel.lawful c) };
 
     fn count(&self) -> u8 {
         1

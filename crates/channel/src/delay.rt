@@ -45,7 +45,7 @@ impl Channel for DelayRing {
 
     const LETTER: u8 = b'd';
 
-    ghost letter = { 100 };
+    ghost LETTER = { 100 };
 
     ghost Model = { Delayed };
 
@@ -54,10 +54,6 @@ impl Channel for DelayRing {
     ghost calls = { delay_ring };
 
     ghost lawful = { delay_lawful };
-
-    fn kind_letter() -> u8 {
-        Self::LETTER
-    }
 
     fn put(&mut self, item: Item) -> bool {
         let wait = self.delay;

@@ -13,11 +13,10 @@ use symbol::{Item, Note, Symbol};
 // A channel is known by its items in order, whether the first is ready, and whether it has space.
 // `calls` says what each call makes of `model`; `lawful` says what all channels have in common.
 pub trait Channel {
-    // The letter of this kind of channel.
+    // The letter of this kind of channel, and what clauses read of it.
     const LETTER: u8;
 
-    // No clause can name a constant, so the letter has a ghost as well.
-    ghost letter: { ℕ };
+    ghost LETTER: { ℕ };
 
     ghost Model: { Type 0 };
 
@@ -25,9 +24,12 @@ pub trait Channel {
 
     ghost calls: { Calls Model };
 
-    // The constant above: the letter that generic code can be proved to have read.
+    // The letter above.
     fn kind_letter() -> u8
-        ensures { result ≡ letter };
+        ensures { result ≡ LETTER }
+    {
+        Self::LETTER
+    }
 
     // Puts an item last, and answers whether it was accepted.
     fn put(&mut self, item: Item) -> bool

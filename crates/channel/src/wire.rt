@@ -30,7 +30,7 @@ impl Wire {
 impl Channel for Wire {
     const LETTER: u8 = b'w';
 
-    ghost letter = { 119 };
+    ghost LETTER = { 119 };
 
     ghost Model = { List Item };
 
@@ -39,10 +39,6 @@ impl Channel for Wire {
     ghost calls = { wire };
 
     ghost lawful = { wire_lawful };
-
-    fn kind_letter() -> u8 {
-        Self::LETTER
-    }
 
     fn put(&mut self, item: Item) -> bool {
         self.items.push(item)

@@ -39,7 +39,7 @@ impl Gate {
 impl Channel for Gate {
     const LETTER: u8 = b'g';
 
-    ghost letter = { 103 };
+    ghost LETTER = { 103 };
 
     ghost Model = { Gate };
 
@@ -48,10 +48,6 @@ impl Channel for Gate {
     ghost calls = { gate };
 
     ghost lawful = { gate_lawful };
-
-    fn kind_letter() -> u8 {
-        Self::LETTER
-    }
 
     fn put(&mut self, item: Item) -> bool {
         match self.passage {

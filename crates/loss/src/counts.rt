@@ -4,6 +4,7 @@ ghost use Rattle.std.specs.Prelude.{◌≡◌};
 
 use symbol::{Mark, SymbolKind};
 
+// A field for each kind, matched once to read it and once to write it: an array would number the kinds.
 #[derive(Clone, Copy)]
 pub struct PutCounts {
     frames: u32,

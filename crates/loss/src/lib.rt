@@ -37,7 +37,7 @@ impl<C: Channel> ScriptedLoss<C> {
 impl<C: Channel> Channel for ScriptedLoss<C> {
     const LETTER: u8 = C::LETTER;
 
-    ghost letter = { C.Channel.letter };
+    ghost LETTER = { C.Channel.LETTER };
 
     ghost Model = { Lossy C.Channel.Model };
 
@@ -46,10 +46,6 @@ impl<C: Channel> Channel for ScriptedLoss<C> {
     ghost calls = { lossy C.Channel.calls };
 
     ghost lawful = { λ c. loss_lawful C.Channel.calls c (C.Channel.lawful c.below) };
-
-    fn kind_letter() -> u8 {
-        C::kind_letter()
-    }
 
     fn put(&mut self, item: Item) -> bool {
         let kind = item.symbol.kind();

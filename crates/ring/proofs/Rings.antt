@@ -1,10 +1,9 @@
 -- What a ring holds, by its places: its fields keep what the lemmas on windows ask.
 use Rattle.std.proofs.Common.{◌≡◌, ℕ, ◌+◌, ◌-◌, ◌<◌, ◌≤◌, Bool, ◌||◌, List, [], ◌∷◌, ◌++◌, map, length, get_or, take}
-use Rattle.std.proofs.Common.{drop, set, Some, refl, sym, ap, ◌∙◌, arith}
-use Rattle.std.specs.List.{list_any, slice_get}
+use Rattle.std.proofs.Common.{drop, set, refl, sym, ap, ◌∙◌, arith}
+use Rattle.std.specs.List.{list_any}
 use Rattle.std.proofs.lemmas.List.Edits.{map_over_more}
 use Rattle.std.proofs.lemmas.List.{take_all, drop_all, append-nil}
-use Rattle.std.proofs.lemmas.Option.{slice_get-get_or}
 use Rattle.ring.specs.Contents.{contents, place, window}
 use Rattle.ring.specs.Queue.{any, tail}
 use Rattle.ring.specs.declared.Ring.{Ring}
@@ -39,9 +38,6 @@ module _ {T : Type 0} {n : ℕ} (r : Ring T n) where
       ∙ window_rest r.places n r.head r.long r.head_in r.len r.len_in l
 
 module _ {T : Type 0} {n : ℕ} (r : Ring T n) (k at : ℕ) (x : T) (l : k < r.len) (e : at ≡ place n r.head k) where
-  pub ring_nth : slice_get (contents r) k ≡ Some (get_or r.places at x)
-  ring_nth = slice_get-get_or (contents r) k x (omega (arith, ring_length r)) ∙ ap (λ y. Some y) (ring_at r k at x l e)
-
   -- a pass over the values, one further
   pub mapped_more : (f : T → T) (old : List T) (y : T) → length old ≡ r.len
       → contents r ≡ map f (take k old) ++ drop k old →
