@@ -45,7 +45,7 @@ accepted_command (Ok c) p place x h = accepted_by (after p c) p c place x refl h
 accepted_command (Err e) p place x h = absurd (cc)
 
 some_read : (r : Result Read Fault) (x : Read) → then r (λ y. Ok (Some y)) ≡ Ok (Some x) → r ≡ Ok x
-some_read (Ok y) x h = let same : y ≡ x = cc in ap Ok same
+some_read (Ok y) x h = cc
 some_read (Err e) x h = absurd (cc)
 
 accepted_tokens : (p : Progress) (ts : List Seen) (x : Read) → read_tokens p ts ≡ Ok (Some x)

@@ -1,6 +1,6 @@
 -- A pass over the lines of a script.
-use Rattle.std.proofs.Common.{◌≡◌, ℕ, ◌+◌, ◌<◌, true, false, List, [], ◌∷◌, length, is_some, Some, None, Ok, Err, Option, Result}
-use Rattle.std.proofs.Common.{unwrap_or, sym, refl, ap, ◌∙◌, arith}
+use Rattle.std.proofs.Common.{◌≡◌, ℕ, ◌+◌, ◌<◌, true, false, List, [], ◌∷◌, length, is_some, Some, None, Ok, Err}
+use Rattle.std.proofs.Common.{Option, Result, unwrap_or, sym, refl, ap, ◌∙◌, arith}
 use Rattle.script.specs.declared.command.Placed.{Placed}
 use Rattle.script.specs.declared.fault.Fault.{Fault}
 use Rattle.script.specs.declared.line.Read.{Read}

@@ -1,6 +1,6 @@
 -- Whatever a line is at fault for, its own number is told.
 use Rattle.std.proofs.Common.{◌≡◌, ℕ, Bool, true, false, cond, ◌&&◌, eqb, ltb, leb, List, [], ◌∷◌, length, Some, None}
-use Rattle.std.proofs.Common.{Ok, Err, Option, Result, refl, subst}
+use Rattle.std.proofs.Common.{Ok, Err, Option, Result, refl}
 use Rattle.std.specs.Option.{ok_or}
 use Rattle.std.specs.List.{AllByRecursion}
 use Rattle.symbol.specs.Ends.{end_with}
@@ -183,7 +183,7 @@ on_line k p bs =
 
 told_by : (k : ℕ) (r : Result (Option Read) Fault) (f : Fault) → On k Any r → r ≡ Err f → f.place.line ≡ k
 told_by k (Ok x) f h e = absurd (cc)
-told_by k (Err g) f h e = let same : g ≡ f = cc in subst (λ (x : Fault). x.place.line ≡ k) same h
+told_by k (Err g) f h e = cc
 
 -- the line told with a fault is that of the line at fault
 pub line_told : (k : ℕ) (p : Progress) (bs : List ℕ) (f : Fault) → read_line k p bs ≡ Err f → f.place.line ≡ k

@@ -1,6 +1,6 @@
 -- The bytes of a script: its lines, their words, and numbers.
-use Rattle.std.specs.Prelude.{◌≡◌, ℕ, suc, ◌+◌, ◌-◌, ◌*◌, Bool, true, false, cond, not, ◌&&◌, List, [], ◌∷◌, length, Some}
-use Rattle.std.specs.Prelude.{None, Option, ◌==◌, nat_le, nat_lt}
+use Rattle.std.specs.Prelude.{◌≡◌, ℕ, suc, ◌+◌, ◌-◌, ◌*◌, Bool, true, false, cond, not, ◌&&◌, List, [], ◌∷◌, length}
+use Rattle.std.specs.Prelude.{Some, None, Option, ◌==◌, nat_le, nat_lt}
 use Rattle.std.specs.Str.{all_ascii_digits}
 
 -- a gap is spaces, a word any other bytes, and byte 0A ends a line

@@ -31,7 +31,7 @@ impl Number {
         Err(self.place.fault(Refusal::OutOfRange))
     }
 
-    // The value, if it lies below `limit`.
+    // The value, if it lies below `limit`. No case of `within`: a limit of 0 leaves no range with a last number.
     fn below(self, limit: u8) -> Result<u8, Fault>
         ensures { result ≡ below limit self }
     {

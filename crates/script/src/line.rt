@@ -49,10 +49,10 @@ fn read_ordered(first: Token<'_>, tokens: Tokens<'_>, progress: Progress) -> Res
 fn read_tokens(mut tokens: Tokens<'_>, progress: Progress) -> Result<Option<Read>, Fault>
     ensures { result ≡ read_tokens progress (left tokens.entry) }
 {
-    match tokens.next() {
-        None => Ok(None),
-        Some(first) => Ok(Some(read_ordered(first, tokens, progress)?)),
-    }
+    let Some(first) = tokens.next() else {
+        return Ok(None);
+    };
+    read_ordered(first, tokens, progress).map(Some)
 }
 
 // The command of a line, if it has a word.
@@ -60,7 +60,11 @@ pub(crate) fn read_line(text: &[u8], line: usize, progress: Progress) -> Result<
     ensures { result ≡ read_line line progress text.now }
 {
     if text.len() > LINE {
-        return Err(Place { line, byte: 81 }.fault(Refusal::LongLine));
+        return Err(Place {
+            line,
+            byte: LINE + 1,
+        }
+        .fault(Refusal::LongLine));
     }
     read_tokens(Tokens::new(text, line), progress)
 }

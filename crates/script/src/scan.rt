@@ -24,6 +24,7 @@ pub(crate) fn read_number(text: &[u8]) -> Option<u32>
         return None;
     }
     let mut value: u32 = 0;
+    // A try_fold is not proved: its closure has to show that each sum fits, and knows no bound on it.
     for b in text {
         value = value * 10 + char::from(*b).to_digit(10)?;
     }

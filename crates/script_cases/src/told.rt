@@ -5,7 +5,7 @@ use std::alloc::{AllocError, Global};
 use std::process::Abort;
 
 pub(crate) fn told(script: &[u8]) -> Result<(), (u8, usize, usize)> {
-    check(script).map_err(|fault| { (u8::from(fault.refusal), fault.place.line, fault.place.byte) })
+    check(script).map_err(|fault| (u8::from(fault.refusal), fault.place.line, fault.place.byte))
 }
 
 // Each script with what is told of it.

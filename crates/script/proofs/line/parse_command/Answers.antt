@@ -20,8 +20,9 @@ count-requires-clause-fits c =
     inl (omega (arith, length-placed t.line (words (t.at + 1) t.rest.now), words_few (t.at + 1) t.rest.now))
 
 -- the word's keyword, where the refusal of a word that is none was given its place
-known : (o : Option Keyword) (r : Result Keyword Refusal) (s : Result Keyword Fault) (k : Keyword) (Q : Refusal → Type 0)
-    → r ≡ ok_or o UnknownCommand → MatchResult r (λ x. s ≡ Ok x) Q → is_ok s ≡ is_ok r → s ≡ Ok k → o ≡ Some k
+known : (o : Option Keyword) (r : Result Keyword Refusal) (s : Result Keyword Fault) (k : Keyword)
+    (Q : Refusal → Type 0) → r ≡ ok_or o UnknownCommand → MatchResult r (λ x. s ≡ Ok x) Q → is_ok s ≡ is_ok r
+    → s ≡ Ok k → o ≡ Some k
 known None r s k Q read told same ok = let no = ap is_ok read in let yes = ap is_ok ok in absurd (cc)
 known (Some x) r s k Q read told same ok = let z = rw read at told in cc
 

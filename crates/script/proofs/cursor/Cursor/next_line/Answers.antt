@@ -23,4 +23,5 @@ returns c =
       | in-len1-up w ↦ ap (λ r. r.now) w.self-is ∙ take_all _ _ (omega (arith, length-drop 1 ended))
     ] in
     rw (first_line c.args.self.now.rest.now c.split_run.result.0.now ended c.if-ended-lt1.self.now
-    (grind (arith, nat_tests)) (c.split_run.ensures.run in_line (λ b r h. search rules)) c.split_run.ensures.whole behind)
+    (grind (arith, nat_tests)) (c.split_run.ensures.run in_line (λ b r h. search rules))
+    c.split_run.ensures.whole behind)
