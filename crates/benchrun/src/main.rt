@@ -130,10 +130,9 @@ fn print_port(rt: &HostRuntime, port: usize, figures: Option<Figures>) -> anyhow
     let Some(f) = figures else {
         return Ok(());
     };
-    let credit = (f.in_use, f.limit);
     println!(rt;
         "port {port}: {} of {} credits in use, {} held, {} owed",
-        credit.0, credit.1, f.held, f.owed
+        f.in_use, f.limit, f.held, f.owed
     )?;
     println!(rt;
         "  frames lost {} made good {}",
