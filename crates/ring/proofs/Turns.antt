@@ -42,7 +42,9 @@ module _ {X : Type 0} (p : X → Bool) (old now : List X) (k : ℕ) (l : k < len
 
   -- a value is left to come out
   pub turn_some : head? now ≡ None → ⊥
-  turn_some e = headless now e (omega (arith, ap length inv, length-append (drop k old) (filter p (take k old)), length-drop k old))
+  turn_some e =
+      let f = filter p (take k old) in
+      headless now e (omega (arith, ap length inv, length-append (drop k old) f, length-drop k old))
     where
       headless : (xs : List X) → head? xs ≡ None → 0 < length xs → ⊥
       headless [] n h = omega arith

@@ -45,6 +45,7 @@ impl<T: Copy, const N: usize> Ring<T, N> {
     {
         // Each value in turn comes out, and goes in again as the last if it is kept.
         for _turn in 0..self.len {
+            // Two tests: where a test of `if let .. && ..` fails, a proof does not learn which.
             if let Some(oldest) = self.pop() {
                 if keep(oldest) {
                     let _ = self.push(oldest);

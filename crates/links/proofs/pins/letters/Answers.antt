@@ -7,4 +7,7 @@ use Rattle.links.proofs.pins.letters.Goals as goal
 pub returns : goal.returns
 returns g c =
     let b = g.B.Bank.model c.args.bank.now in
-    let m = made _ _ (letter_at g.B.Bank.calls b) g.row.N (λ i y q l k. search rules) c.from_fn.result 0 c.from_fn.ensures.items in ap₂ both c.count.ensures m
+    let at = letter_at g.B.Bank.calls b in
+    let m =
+    made _ _ at g.row.N (λ i y q l k. search rules) c.from_fn.result 0 c.from_fn.ensures.items in
+    ap₂ both c.count.ensures m
