@@ -67,6 +67,7 @@ impl Progress {
         let d = usize::from(direction);
         match self.loses.get(d) {
             Some(&loses) if loses < LOSES => {
+                // By index: what is written through get_mut is not known to a proof.
                 self.loses[d] = loses + 1;
                 Ok(self)
             }
