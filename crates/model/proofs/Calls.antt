@@ -9,6 +9,7 @@ use Rattle.eventlog.specs.declared.event.FrameKind.TheVariants.{Freed, Injected,
 use Rattle.bank.specs.Bank.{BankCalls, LawfulBank}
 use Rattle.port.specs.Port.{next_frame, freed_of, Port, Buffers, Turn, and_then, with_buffers, lent_out, injected_at}
 use Rattle.port.specs.Port.{among}
+use Rattle.port.proofs.Numbers.{fewer_without}
 use Rattle.symbol.specs.declared.end.End.{End}
 use Rattle.model.specs.Chain.{injected, Chain, facing, port_of, with_port, end_port, takes, sends, each_port, ticked}
 use Rattle.model.specs.Chain.{stepped, collects_by, released_at, on}
@@ -18,7 +19,6 @@ use Rattle.model.specs.OnePlace.{numbers, up_to}
 use Rattle.model.proofs.Accounts.{Account, noted_all, account}
 use Rattle.model.proofs.Banks.{bank_step}
 use Rattle.model.proofs.Cuts.{Cut}
-use Rattle.model.proofs.Lists.{fewer_without}
 use Rattle.model.proofs.Links.{takes_links, sends_links, each_links}
 use Rattle.model.proofs.Loop.{Loop, receiver_frees}
 use Rattle.model.proofs.Records.{AllMeetRoom, At, account_off, rooms_kept}

@@ -26,7 +26,7 @@ use Rattle.model.specs.Run.{is_running, is_draining, Moving, runs, drains, Run}
 use Rattle.model.specs.Figures.{ticks, tick_in}
 use Rattle.model.specs.OnePlace.{up_to}
 use Rattle.model.proofs.Accounts.{account, no_account, no_tally}
-use Rattle.model.proofs.Lists.{none_some, first_is}
+use Rattle.model.proofs.Lists.{first_is}
 use Rattle.model.proofs.InStep.{InStep}
 use Rattle.model.proofs.Loop.{Loop}
 use Rattle.model.proofs.Records.{AllMeetRoom, rooms_kept}
@@ -244,7 +244,7 @@ module _ {B : Type 0} (M : BankCalls B) (law : (b : B) → LawfulBank M b) where
 
   -- a test that refuses has not
   pub passed : (t : Bool) (r : Refusal) (o : Option Refusal) → cond t (Some r) o ≡ None → (t ≡ false) × (o ≡ None)
-  passed true r o e = absurd (none_some (sym e))
+  passed true r o e = cc
   passed false r o e = (refl, e)
 
   pub some_links : (c : Chain B) → eqb c.links 0 ≡ false → 0 < c.links
@@ -299,7 +299,7 @@ module _ {B : Type 0} (M : BankCalls B) (law : (b : B) → LawfulBank M b) where
     where
       go : (t u : Bool) → cond t (cond u (Some refusal.SheetFull) None) (Some refusal.NotHandedOut) ≡ None → t ≡ true
       go true u w = refl
-      go false u w = absurd (none_some (sym w))
+      go false u w = cc
 
   release_after : (c : Chain B) (l : Log) (e : End) (k room : ℕ) → Invariant M c l
       → release_refusal M c e k room ≡ None → Kept M l (released_at M c e k)

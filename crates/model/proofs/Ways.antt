@@ -25,10 +25,6 @@ times-append : (k : ℕ) (xs ys : List Frame) → times k (xs ++ ys) ≡ times k
 times-append k [] ys = omega arith
 times-append k (x ∷ xs) ys = omega (arith, times-append k xs ys)
 
-in_order_all : (xs : List Frame) → InOrderOf xs xs
-in_order_all [] = nothing
-in_order_all (x ∷ xs) = next (in_order_all xs)
-
 in_order_none : (ys : List Frame) → InOrderOf [] ys
 in_order_none [] = nothing
 in_order_none (y ∷ ys) = left_out (in_order_none ys)
