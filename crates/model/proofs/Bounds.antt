@@ -19,7 +19,7 @@ use Rattle.port.specs.Port.{after_send, unsent, emptied, sent_on, lent_out, hand
 use Rattle.port.specs.Port.{next_frame, freed_of}
 use Rattle.model.specs.Chain.{sent, Chain, behind, facing, port_of, with_port, with_bank, is_end, takes_item, takes}
 use Rattle.model.specs.Chain.{drawn, sends_symbol, sends, each_port, ticked, stepped, last_tick, outbox_places, sound}
-use Rattle.model.proofs.Links.{takes_still, sends_still, takes_links, sends_links, each_links, each_tick}
+use Rattle.model.proofs.Links.{takes_still, sends_still, each_still}
 
 -- the numbers of a port that has taken at most `took` items and sent at most `sent` symbols
 pub record Within (took sent : ℕ) (s : Port) : Type 0 where
@@ -255,8 +255,8 @@ module _ {B : Type 0} (M : BankCalls B) where
 
   pub stepped_tick : (c : Chain B) → (stepped M c).state.tick ≡ c.tick + 1
   stepped_tick c =
-      each_tick (sends M) (sends_still M) (each_port (takes M) (2 * c.links) (ticked M c).state).state (2 * c.links)
-      ∙ each_tick (takes M) (takes_still M) (ticked M c).state (2 * c.links)
+      (each_still (sends M) (sends_still M) (each_port (takes M) (2 * c.links) (ticked M c).state).state
+      (2 * c.links)).tick ∙ (each_still (takes M) (takes_still M) (ticked M c).state (2 * c.links)).tick
 
   pub step_bounded : (c : Chain B) → c.tick < last_tick → Bounded c → Bounded (stepped M c).state
   step_bounded c early h = record {
@@ -269,8 +269,8 @@ module _ {B : Type 0} (M : BankCalls B) where
       taken = (each_port (takes M) (2 * c.links) (ticked M c).state).state
 
       links : (stepped M c).state.links ≡ c.links
-      links = each_links (sends M) (sends_links M) taken (2 * c.links)
-          ∙ each_links (takes M) (takes_links M) (ticked M c).state (2 * c.links)
+      links = (each_still (sends M) (sends_still M) taken (2 * c.links)).links
+          ∙ (each_still (takes M) (takes_still M) (ticked M c).state (2 * c.links)).links
 
       tick : (stepped M c).state.tick ≡ c.tick + 1
       tick = stepped_tick c

@@ -31,7 +31,7 @@ use Rattle.model.specs.Chain.{stepped, last_tick}
 use Rattle.model.specs.Run.{Log}
 use Rattle.model.proofs.Banks.{bank_put, bank_put_off, bank_take, bank_take_off, bank_take_none, bank_ready}
 use Rattle.model.proofs.Banks.{bank_step}
-use Rattle.model.proofs.Links.{takes_links, sends_links, each_links}
+use Rattle.model.proofs.Links.{Still, takes_still, sends_still, each_still}
 use Rattle.model.proofs.Places.{behind_below, facing_below}
 use Rattle.model.proofs.Bounds.{at_port}
 
@@ -363,22 +363,22 @@ module _ {B : Type 0} (M : BankCalls B) where
           events = (well_item Put p y (omega (arith, lt, h.links)) z, freed_well c.links p y h.links lt z);
         }
 
-    each_fine : (f : Chain B → ℕ → Turn (Chain B)) → ((c : Chain B) (p : ℕ) → (f c p).state.links ≡ c.links)
+    each_fine : (f : Chain B → ℕ → Turn (Chain B)) → ((c : Chain B) (p : ℕ) → Still c (f c p).state)
         → ((c : Chain B) (p : ℕ) → p < 2 * c.links → Fine c → FineTurn (f c p))
         → (c : Chain B) (k : ℕ) → k ≤ 2 * c.links → Fine c → FineTurn (each_port f k c)
     each_fine f same fine c zero z h = record { state = h; events = tt }
     each_fine f same fine c (suc k) z h =
         let before = each_fine f same fine c k (omega (arith, z)) h in
         fine_then (each_port f k c) (λ d. f d k) before
-        (fine (each_port f k c).state k (omega (arith, z, each_links f same c k)) before.state)
+        (fine (each_port f k c).state k (omega (arith, z, (each_still f same c k).links)) before.state)
 
     pub step_fine : (c : Chain B) → c.tick < last_tick → Fine c → FineTurn (stepped M c)
     step_fine c early h =
         fine_then (and_then (ticked M c) (each_port (takes M) (2 * c.links)))
         (each_port (sends M) (2 * c.links)) taken
-        (each_fine (sends M) (sends_links M) sends_fine
+        (each_fine (sends M) (sends_still M) sends_fine
         (each_port (takes M) (2 * c.links) (ticked M c).state).state (2 * c.links)
-        (omega (arith, each_links (takes M) (takes_links M) (ticked M c).state (2 * c.links))) taken.state)
+        (omega (arith, (each_still (takes M) (takes_still M) (ticked M c).state (2 * c.links)).links)) taken.state)
       where
         tick : FineTurn (ticked M c)
         tick = record {
@@ -393,5 +393,5 @@ module _ {B : Type 0} (M : BankCalls B) where
         taken : FineTurn (and_then (ticked M c) (each_port (takes M) (2 * c.links)))
         taken =
             fine_then (ticked M c) (each_port (takes M) (2 * c.links)) tick
-            (each_fine (takes M) (takes_links M) takes_fine (ticked M c).state (2 * c.links) (omega arith)
+            (each_fine (takes M) (takes_still M) takes_fine (ticked M c).state (2 * c.links) (omega arith)
             tick.state)

@@ -1,6 +1,6 @@
 use Rattle.std.proofs.Common.{ap, ◌∙◌, arith}
 use Rattle.model.specs.Chain.{sends}
-use Rattle.model.proofs.Links.{each_links, sends_links}
+use Rattle.model.proofs.Links.{each_still, sends_still}
 use Rattle.chain.specs.View.{chain_of}
 use Rattle.chain.proofs.Acts.{acted_none, each_more}
 use Rattle.chain.proofs.inner.Inner.send_all.Goals as goal
@@ -20,5 +20,5 @@ send-requires g c =
     let M = g.B.Bank.calls in
     let start = chain_of g.B.Bank.model c.args.self.now in
     let links = ap (λ x. x.links) c.loop-number.invariant.state
-    ∙ each_links (sends M) (sends_links M) start c.loop-number.number in
+    ∙ (each_still (sends M) (sends_still M) start c.loop-number.number).links in
     omega (arith, links)
