@@ -20,7 +20,7 @@ use Rattle.model.proofs.Places.{end_below}
 use Rattle.model.proofs.Readable.{FineNumber, FineSymbols, FinePort, FineOldest, Fine, FineTurn, FineRun, fresh_fine}
 use Rattle.model.proofs.Readable.{well_frame, fine_port, fine_more, oldest_fine, handed_out_fine, released_fine}
 use Rattle.model.proofs.Readable.{next_fine, injected_fine, number_found, step_fine}
-use Rattle.model.proofs.Runs.{cabling, some_links, passed, login_fits, step_early, released_out, run_bounded}
+use Rattle.model.proofs.Runs.{new_ports, cabling, some_links, passed, login_fits, step_early, released_out, run_bounded}
 
 module _ {B : Type 0} (M : BankCalls B) (law : (b : B) → LawfulBank M b) where
   -- every record of a run is well-formed
@@ -31,11 +31,6 @@ module _ {B : Type 0} (M : BankCalls B) (law : (b : B) → LawfulBank M b) where
       → (r ≡ None → FineTurn M t) → FineRun M (unless_refused r c t).state (l ++ (unless_refused r c t).events)
   unless_fine None c t l h f = fine_more M c l t h (f refl)
   unless_fine (Some e) c t l h f = same_run c l h
-
-  new_ports_fine : (n q : ℕ) → FinePort (get_or (replicate n new_port) q new_port)
-  new_ports_fine zero q = fresh_fine 1 1 0 (omega arith)
-  new_ports_fine (suc n) zero = fresh_fine 1 1 0 (omega arith)
-  new_ports_fine (suc n) (suc q) = new_ports_fine n q
 
   login_fine : (o : Option Refusal) (c : Chain B) (k x y n : ℕ) → Fine M c → (o ≡ None → n ≤ 15)
       → Fine M (unless_refused o c (no_act (logs_in M c k x y n))).state
@@ -97,7 +92,7 @@ module _ {B : Type 0} (M : BankCalls B) (law : (b : B) → LawfulBank M b) where
   run_fine {b} new = record {
     state = record {
       links = (cabling M law b).few;
-      ports = new_ports_fine 16;
+      ports = λ q. subst FinePort (sym (new_ports 16 q)) (fresh_fine 1 1 0 (omega arith));
       channels = λ d z. subst FineSymbols (sym ((cabling M law b).idle d z)) tt;
     };
     log = tt;

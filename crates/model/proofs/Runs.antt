@@ -4,7 +4,7 @@ use Rattle.std.proofs.Common.{eqb, ltb, leb, ◌≢◌, ◌⊎◌, List, [], ◌
 use Rattle.std.proofs.Common.{Ok, Err, Option, Result, sym, refl, ap, ◌∙◌, subst, inl, inr, append-nil, le_refl, arith}
 use Rattle.std.proofs.Common.{length-set, pow_pos}
 use native.Mathlib.Nat.{zero-mod}
-use lib.ListN.{length-replicate, get_or-replicate}
+use lib.ListN.{length-replicate}
 use Rattle.std.proofs.lemmas.Bool.{false≢true, eqb-false, cases_eq, leb-true, leb-false, and_parts, or_parts, ltb-false}
 use Rattle.ring.specs.Queue.{head?, tail, empty}
 use Rattle.symbol.specs.declared.Frame.{Frame}
@@ -30,7 +30,7 @@ use Rattle.model.proofs.Lists.{first_is}
 use Rattle.model.proofs.InStep.{InStep}
 use Rattle.model.proofs.Loop.{Loop}
 use Rattle.model.proofs.Records.{AllMeetRoom, rooms_kept}
-use Rattle.model.proofs.Places.{facing_is, behind_below, port_same, port_other, end_below}
+use Rattle.model.proofs.Places.{FacingIs, facing_is, behind_below, port_same, port_other, end_below}
 use Rattle.model.proofs.Kept.{Loops, loop_same, Stocked, Invariant, Kept}
 use Rattle.model.proofs.Calls.{step_kept, inject_kept, collect_kept, release_kept}
 use Rattle.model.proofs.Bounds.{stepped_tick, Within, Bounded, new_port_within, fresh_within, handed_within}
@@ -67,6 +67,12 @@ new_stream n = record {
 new_loop : (a b n : ℕ) → Loop (logged_in a b n) (logged_in b a n) [] [] no_account no_account
 new_loop a b n = record { figures = omega arith; frames = new_stream n; rrdys = new_stream n; order = refl }
 
+-- each port of a new table is as new as the one past its end
+pub new_ports : (n q : ℕ) → get_or (replicate n new_port) q new_port ≡ new_port
+new_ports zero q = refl
+new_ports (suc n) zero = refl
+new_ports (suc n) (suc q) = new_ports n q
+
 module _ {B : Type 0} (M : BankCalls B) (law : (b : B) → LawfulBank M b) where
   -- a cabled chain: nothing has moved yet
   pub record Fresh (c : Chain B) : Type 0 where
@@ -89,8 +95,7 @@ module _ {B : Type 0} (M : BankCalls B) (law : (b : B) → LawfulBank M b) where
     fresh_loops : Loops c.links (port_of c) (on M c) (λ p. account p [])
     fresh_loops p q lt f = go (facing_is p)
       where
-        go : ((p % 2 ≡ 0) × (facing p ≡ p + 1)) ⊎ ((p % 2 ≡ 1) × (facing p ≡ p - 1))
-            → Loop (port_of c p) (port_of c q) (on M c p) (on M c q) no_account no_account
+        go : FacingIs p → Loop (port_of c p) (port_of c q) (on M c p) (on M c q) no_account no_account
         go (inl e) =
             (link_loops (p / 2) (omega arith) p q (omega (arith, e.0)) (omega (arith, e.0, e.1, f)) (h.idle p lt)
             (h.idle q (omega (arith, e.0, e.1, f)))).0
@@ -102,7 +107,7 @@ module _ {B : Type 0} (M : BankCalls B) (law : (b : B) → LawfulBank M b) where
         → P (port_of c p)
     each_fresh P every p lt = go (facing_is p)
       where
-        go : ((p % 2 ≡ 0) × (facing p ≡ p + 1)) ⊎ ((p % 2 ≡ 1) × (facing p ≡ p - 1)) → P (port_of c p)
+        go : FacingIs p → P (port_of c p)
         go (inl e) = let g = h.linked (p / 2) (omega arith) in let ep : p ≡ 2 * (p / 2) = omega (arith, e.0) in
             subst P (sym (ap (port_of c) ep ∙ g.west_is)) (every g.own g.other g.n)
         go (inr e) = let g = h.linked (p / 2) (omega arith) in let ep : p ≡ 2 * (p / 2) + 1 = omega (arith, e.0) in
@@ -211,13 +216,8 @@ module _ {B : Type 0} (M : BankCalls B) (law : (b : B) → LawfulBank M b) where
   cabled_fresh : (b : B) → Fresh (cabled M b)
   cabled_fresh b = record {
     size = omega (arith, (cabling b).few, length-replicate 16 new_port);
-    linked = λ i z. record {
-      own = 1;
-      other = 1;
-      n = 0;
-      west_is = get_or-replicate 16 (2 * i) new_port new_port (omega (arith, z, (cabling b).few));
-      east_is = get_or-replicate 16 (2 * i + 1) new_port new_port (omega (arith, z, (cabling b).few));
-    };
+    linked =
+        λ i z. record { own = 1; other = 1; n = 0; west_is = new_ports 16 (2 * i); east_is = new_ports 16 (2 * i + 1) };
     idle = (cabling b).idle;
   }
 
@@ -324,11 +324,6 @@ module _ {B : Type 0} (M : BankCalls B) (law : (b : B) → LawfulBank M b) where
       go (Some r) e = h
 
   -- every run stays within its bounds
-  new_within : (n q : ℕ) → Within 0 0 (get_or (replicate n new_port) q new_port)
-  new_within zero q = new_port_within 0 0
-  new_within (suc n) zero = new_port_within 0 0
-  new_within (suc n) (suc q) = new_within n q
-
   unless_bounded : (r : Option Refusal) (c : Chain B) (t : Turn (Chain B)) → Bounded c
       → (r ≡ None → Bounded t.state) → Bounded (unless_refused r c t).state
   unless_bounded None c t h f = f refl
@@ -372,7 +367,11 @@ module _ {B : Type 0} (M : BankCalls B) (law : (b : B) → LawfulBank M b) where
       )
 
   pub run_bounded : {b : B} {ph : Phase} {c : Chain B} {l : Log} → Run M b ph c l → Bounded c
-  run_bounded {b} new = record { links = (cabling b).few; tick = omega arith; ports = new_within 16 }
+  run_bounded {b} new = record {
+    links = (cabling b).few;
+    tick = omega arith;
+    ports = λ q. subst (Within 0 0) (sym (new_ports 16 q)) (new_port_within 0 0);
+  }
   run_bounded (login {c = c} k x y m n r) =
       unless_bounded (login_refusal M c k x y m n) c (no_act (logs_in M c k x y n)) (run_bounded r)
       (λ z. let f = login_fits c k x y m n z in
