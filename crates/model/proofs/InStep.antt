@@ -8,7 +8,7 @@ use Rattle.port.specs.Port.{Outflow, lost_of}
 use Rattle.model.specs.Figures.{Role, counted, mark, other, one_counted, counted_in}
 use Rattle.model.specs.Stretches.{Arrived, WasLost, lost_among, lost_in, good_among}
 use Rattle.model.specs.WholeParts.{WholePart}
-use Rattle.model.proofs.Accounts.{Losses}
+use Rattle.model.proofs.Accounts.{Losses, with_got, with_lost, with_mark}
 
 -- the losses of the open stretch
 abbrev pub open_lost : Losses → ℕ
@@ -64,28 +64,6 @@ marks_mod m x y (r ∷ rs) e h = (
   marks_mod m (x + one_counted r) (y + one_counted r) rs
       (add_mod_eq m x y (one_counted r) e) h.1,
 )
-
--- the losses after one more counted got, one more lost, and a sound mark that makes k good
-abbrev pub with_got : Losses → Losses
-with_got x = record {
-  lost = x.lost;
-  good = x.good;
-  cut = record { ended = x.cut.ended; still_open = Arrived 0 ∷ x.cut.still_open };
-}
-
-abbrev pub with_lost : Losses → Losses
-with_lost x = record {
-  lost = x.lost + 1;
-  good = x.good;
-  cut = record { ended = x.cut.ended; still_open = WasLost ∷ x.cut.still_open };
-}
-
-abbrev pub with_mark : Losses → ℕ → ℕ → Losses
-with_mark x good k = record {
-  lost = x.lost;
-  good = good;
-  cut = record { ended = record { fates = x.cut.still_open; good = k } ∷ x.cut.ended; still_open = [] };
-}
 
 module _ (n : ℕ) (out : Outflow) (got : ℕ) (x : Losses) where
   pub put_counted : (rs : List Role) → out.due ≡ false → InStep n out got rs x

@@ -35,13 +35,6 @@ use Rattle.model.proofs.Runs.{run_invariant, run_bounded, run_ticks}
 use Rattle.model.proofs.ReadBack.{run_fine}
 use Rattle.model.proofs.Ways.{times_often, up_to_in, up_to_out, how_often, places_are, collected_in_order, hop_below}
 
--- a figure that has not come to the largest is exact
-exact : {x y : ℕ} → y ≡ min x 4294967295 → x < 4294967295 → x ≡ y
-exact e z = omega (arith, e)
-
-exact_small : {x y : ℕ} → y ≡ min x 4294967295 → y < 4294967295 → x ≡ y
-exact_small e z = omega (arith, e)
-
 -- as many numbers as frames
 length-numbers : (fs : List Frame) → length (numbers fs) ≡ length fs
 length-numbers [] = refl
@@ -155,34 +148,37 @@ module _ {B : Type 0} (M : BankCalls B) (law : (b : B) → LawfulBank M b) where
       held_is = omega (arith, (takes_in p lt).figures.held_is, t.frames_got, t.freed_is);
       owed_is = omega (arith, (takes_in p lt).figures.owed_is, t.freed_is, t.frames_good, t.rrdys_put);
       used_is = omega (arith, (sends_in p lt).figures.used_is, t.frames_put, t.rrdys_got, t.rrdys_good);
-      frames_lost = sym frames_lost ∙ t.frames_lost;
+      frames_lost = omega (arith, frames_lost, t.frames_lost);
       frames_good =
-          sym
-          (exact (takes_in p lt).figures.frames_good
-          (omega (
+          omega (
             arith,
+            (takes_in p lt).figures.frames_good,
             (takes_in p lt).frames.good,
             frames_lost,
-            (few.ports p).frames_lost,
+            few.ports p,
             few.tick,
-          ))) ∙ t.frames_good;
-      rrdys_lost = sym rrdys_lost ∙ t.rrdys_lost;
+            t.frames_good,
+          );
+      rrdys_lost = omega (arith, rrdys_lost, t.rrdys_lost);
       rrdys_good =
-          sym
-          (exact (sends_in p lt).figures.rrdys_good
-          (omega
-          (arith, (sends_in p lt).rrdys.good, rrdys_lost, (few.ports p).rrdys_lost, few.tick))) ∙ t.rrdys_good;
-      handed_is = sym (exact_small (h.stocked p lt).1 (omega (arith, (few.ports p).handed, few.tick)))
-          ∙ ap length t.collected_are;
+          omega (
+            arith,
+            (sends_in p lt).figures.rrdys_good,
+            (sends_in p lt).rrdys.good,
+            rrdys_lost,
+            few.ports p,
+            few.tick,
+            t.rrdys_good,
+          );
+      handed_is = omega (arith, (h.stocked p lt).1, few.ports p, few.tick, ap length t.collected_are);
     }
       where
+        -- a figure that has not come to the largest is exact
         frames_lost : (account p l).frames.losses.lost ≡ (port_of c p).frames_in.lost
-        frames_lost =
-            exact_small (takes_in p lt).figures.frames_lost (omega (arith, (few.ports p).frames_lost, few.tick))
+        frames_lost = omega (arith, (takes_in p lt).figures.frames_lost, few.ports p, few.tick)
 
         rrdys_lost : (account p l).rrdys.losses.lost ≡ (port_of c p).rrdys_in.lost
-        rrdys_lost =
-            exact_small (sends_in p lt).figures.rrdys_lost (omega (arith, (few.ports p).rrdys_lost, few.tick))
+        rrdys_lost = omega (arith, (sends_in p lt).figures.rrdys_lost, few.ports p, few.tick)
 
     injected_is : (e : End) → 0 < c.links → (port_at_end c e).outbox.injected ≡ length (injected (end_port c e) l)
     injected_is e some =
