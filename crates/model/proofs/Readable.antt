@@ -21,7 +21,7 @@ use Rattle.eventlog.specs.declared.event.ItemKind.{ItemKind}
 use Rattle.eventlog.specs.declared.event.ItemKind.TheVariants.{Put, Got, Lost as Missed}
 use Rattle.reader.specs.Reading.{WellFormed}
 use Rattle.bank.specs.Bank.{BankCalls, LawfulBank}
-use Rattle.port.specs.Port.{Port, Turn, and_then, logged_in, lost_of, frames_found, rrdys_found, correction, is_full}
+use Rattle.port.specs.Port.{Buffers, Port, Turn, and_then, logged_in, lost_of, frames_found, rrdys_found, correction, is_full}
 use Rattle.port.specs.Port.{frame_held, credit_back, received, receive_events, frame_of, choice, after_send, emptied}
 use Rattle.port.specs.Port.{sent_on, unsent, with_buffers, lent_out, handed_out, among, without, freed_of, released}
 use Rattle.port.specs.Port.{next_frame, injected_at}
@@ -165,16 +165,13 @@ module _ (s : Port) (h : FinePort s) where
       (λ e. (z.0, without_fine k xs z.1))
 
   pub released_fine : (k : ℕ) → FinePort (released s k)
-  released_fine k = go (among k s.buffers.out)
-    where
-      go : (t : Bool) → FinePort (with_buffers s (cond t (freed_of s.buffers k) s.buffers))
-      go true = record {
+  released_fine k =
+      cond_both (among k s.buffers.out) _ _ (λ (b : Buffers). FinePort (with_buffers s b)) (λ e. record {
         small = h.small;
         boxed = h.boxed;
         wait = h.wait;
         outside = without_fine k s.buffers.out h.outside;
-      }
-      go false = h
+      }) (λ e. h)
 
   pub next_fine : FineNumber (next_frame s).number
   next_fine = (omega arith, omega arith)
@@ -243,7 +240,7 @@ module _ {B : Type 0} (M : BankCalls B) where
   pub fine_port : (c : Chain B) (p : ℕ) (s : Port) → Fine c → FinePort s → Fine (with_port c p s)
   fine_port c p s h z = record {
     links = h.links;
-    ports = λ q. at_port FinePort c.ports p q s z (h.ports q);
+    ports = λ q. at_port FinePort c.ports p q s (λ e. z) (h.ports q);
     channels = h.channels;
   }
 
