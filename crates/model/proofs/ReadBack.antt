@@ -20,7 +20,7 @@ use Rattle.model.proofs.Places.{end_below}
 use Rattle.model.proofs.Readable.{FineNumber, FineSymbols, FinePort, FineOldest, Fine, FineTurn, FineRun, fresh_fine}
 use Rattle.model.proofs.Readable.{well_frame, fine_port, fine_more, oldest_fine, handed_out_fine, released_fine}
 use Rattle.model.proofs.Readable.{next_fine, injected_fine, number_found, step_fine}
-use Rattle.model.proofs.Runs.{new_ports, cabling, some_links, passed, login_fits, step_early, released_out, run_bounded}
+use Rattle.model.proofs.Runs.{unless, new_ports, cabling, some_links, passed, login_fits, step_early, released_out, run_bounded}
 
 module _ {B : Type 0} (M : BankCalls B) (law : (b : B) → LawfulBank M b) where
   -- every record of a run is well-formed
@@ -29,15 +29,15 @@ module _ {B : Type 0} (M : BankCalls B) (law : (b : B) → LawfulBank M b) where
 
   unless_fine : (r : Option Refusal) (c : Chain B) (t : Turn (Chain B)) (l : Log) → FineRun M c l
       → (r ≡ None → FineTurn M t) → FineRun M (unless_refused r c t).state (l ++ (unless_refused r c t).events)
-  unless_fine None c t l h f = fine_more M c l t h (f refl)
-  unless_fine (Some e) c t l h f = same_run c l h
+  unless_fine r c t l h f =
+      unless (λ t. FineRun M t.state (l ++ t.events)) r c t (same_run c l h) (λ e. fine_more M c l t h (f e))
 
   login_fine : (o : Option Refusal) (c : Chain B) (k x y n : ℕ) → Fine M c → (o ≡ None → n ≤ 15)
       → Fine M (unless_refused o c (no_act (logs_in M c k x y n))).state
-  login_fine None c k x y n h f =
-      fine_port M (with_port c (2 * k) (logged_in x y n)) (2 * k + 1) (logged_in y x n)
-      (fine_port M c (2 * k) (logged_in x y n) h (fresh_fine x y n (f refl))) (fresh_fine y x n (f refl))
-  login_fine (Some e) c k x y n h f = h
+  login_fine o c k x y n h f =
+      unless (λ t. Fine M t.state) o c (no_act (logs_in M c k x y n)) h
+      (λ e. fine_port M (with_port c (2 * k) (logged_in x y n)) (2 * k + 1) (logged_in y x n)
+      (fine_port M c (2 * k) (logged_in x y n) h (fresh_fine x y n (f e))) (fresh_fine y x n (f e)))
 
   -- an act at an end, with one record of a fine frame
   end_fine : (c : Chain B) (e : End) (kind : FrameKind) (f : Frame) (s : Port) → 0 < c.links → Fine M c → FinePort s

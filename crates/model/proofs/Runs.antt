@@ -5,14 +5,14 @@ use Rattle.std.proofs.Common.{Ok, Err, Option, Result, sym, refl, ap, ◌∙◌,
 use Rattle.std.proofs.Common.{length-set, pow_pos}
 use native.Mathlib.Nat.{zero-mod}
 use lib.ListN.{length-replicate}
-use Rattle.std.proofs.lemmas.Bool.{false≢true, eqb-false, cases_eq, leb-true, leb-false, and_parts, or_parts, ltb-false}
+use Rattle.std.proofs.lemmas.Bool.{cond_both, false≢true, eqb-false, cases_eq, leb-true, leb-false, and_parts, or_parts, ltb-false}
 use Rattle.ring.specs.Queue.{head?, tail, empty}
 use Rattle.symbol.specs.declared.Frame.{Frame}
 use Rattle.symbol.specs.declared.Item.{Item}
 use Rattle.eventlog.specs.declared.event.Event.TheVariants as event
 use Rattle.eventlog.specs.declared.event.FrameKind.TheVariants.{Freed}
 use Rattle.bank.specs.Bank.{BankCalls, LawfulBank, count}
-use Rattle.port.specs.Port.{freed_of, Port, Turn, no_act, among, handed_out, released, injected_at, logged_in}
+use Rattle.port.specs.Port.{Buffers, freed_of, Port, Turn, no_act, among, handed_out, released, injected_at, logged_in}
 use Rattle.port.specs.Port.{new_port}
 use Rattle.symbol.specs.declared.end.End.{End}
 use Rattle.model.specs.declared.Refusal.{Refusal}
@@ -33,7 +33,7 @@ use Rattle.model.proofs.Records.{AllMeetRoom, rooms_kept}
 use Rattle.model.proofs.Places.{FacingIs, facing_is, behind_below, port_same, port_other, end_below}
 use Rattle.model.proofs.Kept.{Loops, loop_same, Stocked, Invariant, Kept}
 use Rattle.model.proofs.Calls.{step_kept, inject_kept, collect_kept, release_kept}
-use Rattle.model.proofs.Bounds.{stepped_tick, Within, Bounded, new_port_within, fresh_within, handed_within}
+use Rattle.model.proofs.Bounds.{at_port, stepped_tick, Within, Bounded, new_port_within, fresh_within, handed_within}
 use Rattle.model.proofs.Bounds.{released_within, injected_within, with_within, step_bounded}
 use Rattle.model.proofs.Sizes.{total-append, step_ticks}
 
@@ -47,11 +47,15 @@ pub record LoggedIn (s r : Port) : Type 0 where
 
 same_all : (ports : List Port) (i j : ℕ) (s : Port) → s.buffers.all ≡ (get_or ports i new_port).buffers.all
     → (get_or (set ports i s) j new_port).buffers.all ≡ (get_or ports j new_port).buffers.all
-same_all [] i j s e = refl
-same_all (x ∷ xs) zero zero s e = e
-same_all (x ∷ xs) zero (suc j) s e = refl
-same_all (x ∷ xs) (suc i) zero s e = refl
-same_all (x ∷ xs) (suc i) (suc j) s e = same_all xs i j s e
+same_all ports i j s e =
+    at_port (λ z. z.buffers.all ≡ (get_or ports j new_port).buffers.all) ports i j s
+    (λ q. e ∙ ap (λ (v : ℕ). (get_or ports v new_port).buffers.all) (sym q)) refl
+
+-- a call that is refused does nothing, and any other its turn
+pub unless : {B : Type 0} (P : Turn (Chain B) → Type 0) (r : Option Refusal) (c : Chain B) (t : Turn (Chain B))
+    → P (no_act c) → (r ≡ None → P t) → P (unless_refused r c t)
+unless P None c t h f = f refl
+unless P (Some e) c t h f = h
 
 -- a stream of which nothing was sent
 new_stream : (n : ℕ) → InStep n (record { sent = 0; due = false }) 0 [] no_tally.losses
@@ -239,8 +243,7 @@ module _ {B : Type 0} (M : BankCalls B) (law : (b : B) → LawfulBank M b) where
 
   unless_kept : (r : Option Refusal) (c : Chain B) (t : Turn (Chain B)) (l : Log) → Invariant M c l
       → (r ≡ None → Kept M l t) → Kept M l (unless_refused r c t)
-  unless_kept None c t l h f = f refl
-  unless_kept (Some e) c t l h f = subst (Invariant M c) (sym (append-nil l)) h
+  unless_kept r c t l h f = unless (Kept M l) r c t (subst (Invariant M c) (sym (append-nil l)) h) f
 
   -- a test that refuses has not
   pub passed : (t : Bool) (r : Refusal) (o : Option Refusal) → cond t (Some r) o ≡ None → (t ≡ false) × (o ≡ None)
@@ -286,11 +289,8 @@ module _ {B : Type 0} (M : BankCalls B) (law : (b : B) → LawfulBank M b) where
       go false (Some k) z w = last k (ltb room call_bytes) z w
 
   released_all : (s : Port) (k : ℕ) → (released s k).buffers.all ≡ s.buffers.all
-  released_all s k = go (among k s.buffers.out)
-    where
-      go : (t : Bool) → (cond t (freed_of s.buffers k) s.buffers).all ≡ s.buffers.all
-      go true = refl
-      go false = refl
+  released_all s k =
+      cond_both (among k s.buffers.out) _ _ (λ (b : Buffers). b.all ≡ s.buffers.all) (λ e. refl) (λ e. refl)
 
   -- a release that is not refused is of a number handed out
   pub released_out : (c : Chain B) (e : End) (k room : ℕ) → release_refusal M c e k room ≡ None
@@ -316,19 +316,11 @@ module _ {B : Type 0} (M : BankCalls B) (law : (b : B) → LawfulBank M b) where
           (released_out c e k room z)
 
   login_after : (c : Chain B) (k x y m n : ℕ) → Fresh c → Fresh (logins M c k x y m n).state
-  login_after c k x y m n h = go (login_refusal M c k x y m n) refl
-    where
-      go : (o : Option Refusal) → login_refusal M c k x y m n ≡ o
-          → Fresh (unless_refused o c (no_act (logs_in M c k x y n))).state
-      go None e = login_fresh c k x y n (leb-false c.links k (passed (leb c.links k) refusal.NoLinks _ e).0) h
-      go (Some r) e = h
+  login_after c k x y m n h =
+      unless (λ t. Fresh t.state) (login_refusal M c k x y m n) c (no_act (logs_in M c k x y n)) h
+      (λ e. login_fresh c k x y n (leb-false c.links k (passed (leb c.links k) refusal.NoLinks _ e).0) h)
 
   -- every run stays within its bounds
-  unless_bounded : (r : Option Refusal) (c : Chain B) (t : Turn (Chain B)) → Bounded c
-      → (r ≡ None → Bounded t.state) → Bounded (unless_refused r c t).state
-  unless_bounded None c t h f = f refl
-  unless_bounded (Some e) c t h f = h
-
   end_bounded : (c : Chain B) (p : ℕ) (s : Port) → Bounded c → Within c.tick c.tick s → Bounded (with_port c p s)
   end_bounded c p s h w = record {
     links = h.links;
@@ -373,7 +365,7 @@ module _ {B : Type 0} (M : BankCalls B) (law : (b : B) → LawfulBank M b) where
     ports = λ q. subst (Within 0 0) (sym (new_ports 16 q)) (new_port_within 0 0);
   }
   run_bounded (login {c = c} k x y m n r) =
-      unless_bounded (login_refusal M c k x y m n) c (no_act (logs_in M c k x y n)) (run_bounded r)
+      unless (λ t. Bounded t.state) (login_refusal M c k x y m n) c (no_act (logs_in M c k x y n)) (run_bounded r)
       (λ z. let f = login_fits c k x y m n z in
       end_bounded (with_port c (2 * k) (logged_in x y n)) (2 * k + 1) (logged_in y x n)
       (end_bounded c (2 * k) (logged_in x y n) (run_bounded r)
@@ -381,10 +373,10 @@ module _ {B : Type 0} (M : BankCalls B) (law : (b : B) → LawfulBank M b) where
       (fresh_within c.tick c.tick y x n f.1 f.0 f.2))
   run_bounded (start r) = run_bounded r
   run_bounded (step {c = c} m room r) =
-      unless_bounded (step_refusal M c room) c (stepped M c) (run_bounded r)
+      unless (λ t. Bounded t.state) (step_refusal M c room) c (stepped M c) (run_bounded r)
       (λ z. step_bounded M c (step_early c room (run_bounded r) z) (run_bounded r))
   run_bounded (inject {c = c} e room r) =
-      unless_bounded (inject_refusal M c e room) c (injected M c e) (run_bounded r)
+      unless (λ t. Bounded t.state) (inject_refusal M c e room) c (injected M c e) (run_bounded r)
       (λ z. end_bounded c (end_port c e) (injected_at (port_of c (end_port c e))) (run_bounded r)
       (injected_within c.tick c.tick (port_of c (end_port c e)) ((run_bounded r).ports (end_port c e))
       (leb-false 32 (length (port_of c (end_port c e)).outbox.frames)
@@ -392,7 +384,7 @@ module _ {B : Type 0} (M : BankCalls B) (law : (b : B) → LawfulBank M b) where
       (passed (eqb c.links 0) refusal.NoLinks _ z).1).0)))
   run_bounded (collect {c = c} m e room r) = collect_bounded c e (collectable M c e room) (run_bounded r)
   run_bounded (release {c = c} m e k room r) =
-      unless_bounded (release_refusal M c e k room) c (released_at M c e k) (run_bounded r)
+      unless (λ t. Bounded t.state) (release_refusal M c e k room) c (released_at M c e k) (run_bounded r)
       (λ z. end_bounded c (end_port c e) (released (port_of c (end_port c e)) k) (run_bounded r)
       (released_within c.tick c.tick (port_of c (end_port c e)) ((run_bounded r).ports (end_port c e)) k))
   run_bounded (drain r) = run_bounded r
@@ -426,22 +418,20 @@ module _ {B : Type 0} (M : BankCalls B) (law : (b : B) → LawfulBank M b) where
   unless_ticks : (r : Option Refusal) (c : Chain B) (t : Turn (Chain B)) (l : Log) → c.tick ≡ ticks l
       → (r ≡ None → t.state.tick ≡ ticks l + ticks t.events)
       → (unless_refused r c t).state.tick ≡ ticks (l ++ (unless_refused r c t).events)
-  unless_ticks None c t l h f = f refl ∙ sym (total-append tick_in l t.events)
-  unless_ticks (Some e) c t l h f = h ∙ ap ticks (sym (append-nil l))
+  unless_ticks r c t l h f =
+      unless (λ t. t.state.tick ≡ ticks (l ++ t.events)) r c t (h ∙ ap ticks (sym (append-nil l)))
+      (λ e. f e ∙ sym (total-append tick_in l t.events))
 
   collect_ticks : (c : Chain B) (e : End) (r : Result Frame Refusal) (l : Log) → c.tick ≡ ticks l
       → (collects_by M c e r).state.tick ≡ ticks (l ++ (collects_by M c e r).events)
   collect_ticks c e (Ok f) l h = omega (arith, h, total-append tick_in l (collects_by M c e (Ok f)).events)
   collect_ticks c e (Err r) l h = h ∙ ap ticks (sym (append-nil l))
 
-  login_tick : (o : Option Refusal) (c : Chain B) (k x y n : ℕ)
-      → (unless_refused o c (no_act (logs_in M c k x y n))).state.tick ≡ c.tick
-  login_tick None c k x y n = refl
-  login_tick (Some e) c k x y n = refl
-
   pub run_ticks : {b : B} {ph : Phase} {c : Chain B} {l : Log} → Run M b ph c l → c.tick ≡ ticks l
   run_ticks new = refl
-  run_ticks (login {c = c} k x y m n r) = login_tick (login_refusal M c k x y m n) c k x y n ∙ run_ticks r
+  run_ticks (login {c = c} k x y m n r) =
+      unless (λ t. t.state.tick ≡ c.tick) (login_refusal M c k x y m n) c (no_act (logs_in M c k x y n)) refl (λ e. refl)
+      ∙ run_ticks r
   run_ticks (start r) = run_ticks r
   run_ticks (step {c = c} {l = l} m room r) =
       unless_ticks (step_refusal M c room) c (stepped M c) l (run_ticks r)

@@ -20,6 +20,7 @@ use Rattle.model.specs.Chain.{takes_item, takes, sent, sends_symbol, sends, tick
 use Rattle.model.specs.Run.{Log}
 use Rattle.model.specs.Figures.{total, tick_in, ticks}
 use Rattle.model.specs.Sizes.{CallsFit}
+use Rattle.model.proofs.Told.{length_joined}
 
 pub total-append : (f : Event → ℕ) (es fs : Log) → total f (es ++ fs) ≡ total f es + total f fs
 total-append f [] fs = omega arith
@@ -28,10 +29,6 @@ total-append f (e ∷ es) fs = omega (arith, total-append f es fs)
 -- the bytes of a record
 abbrev size : Event → ℕ
 size e = length (encode e)
-
-pub bytes_are : (es : Log) → length (encode_all es) ≡ total size es
-bytes_are [] = refl
-bytes_are (e ∷ es) = length-append (encode e) (encode_all es) ∙ ap (λ (z : ℕ). size e + z) (bytes_are es)
 
 -- what is said of the records of one act: so many bytes at most, and no tick
 pub record Small (most : ℕ) (es : Log) : Type 0 where
@@ -115,7 +112,7 @@ module _ {B : Type 0} (M : BankCalls B) where
     step_fits =
         omega (
           arith,
-          bytes_are (stepped M c).events,
+          length_joined encode (stepped M c).events,
           parts size,
           (each_small 10 (takes M) takes_small after_tick
               (2 * c.links)).bytes,

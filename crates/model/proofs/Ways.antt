@@ -17,7 +17,7 @@ use Rattle.model.specs.Figures.{lost_frames, injected, collected, records, frame
 use Rattle.model.specs.OnePlace.{numbers, up_to, times, InOrderOf, nothing, left_out, next, over_links, hop, taker}
 use Rattle.model.specs.OnePlace.{at_hop, places}
 use Rattle.model.proofs.Accounts.{Account, noted, noted_all, account, no_account}
-use Rattle.model.proofs.Told.{frames-append, told}
+use Rattle.model.proofs.Told.{frames-append, frames_same, told}
 use Rattle.model.proofs.Places.{facing_is, behind_is}
 use Rattle.model.proofs.Kept.{Invariant}
 
@@ -57,14 +57,9 @@ pub record Taken (taken : List Symbol) (got lost : List Frame) : Type 0 where
 module _ (taken : List Symbol) (got lost : List Frame) (h : Taken taken got lost) where
   no_frame : (y : Symbol) → frames_among (y ∷ []) ≡ [] → Taken (taken ++ (y ∷ [])) got lost
   no_frame y e = record {
-    each = λ k. ap (times k) same ∙ h.each k;
-    in_order = subst (InOrderOf got) (sym same) h.in_order;
+    each = λ k. ap (times k) (frames_same taken y e) ∙ h.each k;
+    in_order = subst (InOrderOf got) (sym (frames_same taken y e)) h.in_order;
   }
-    where
-      same : frames_among (taken ++ (y ∷ [])) ≡ frames_among taken
-      same =
-          frames-append taken (y ∷ []) ∙ ap {B = List Frame} (λ z. frames_among taken ++ z) e
-          ∙ append-nil (frames_among taken)
 
   more_taken : (f : Frame) (k : ℕ)
       → times k (frames_among (taken ++ (symbol.Frame f ∷ []))) ≡ times k got + times k lost + times k (f ∷ [])
