@@ -6,7 +6,7 @@ use Rattle.std.proofs.lemmas.Bool.{and_parts, eqb-true}
 use Rattle.std.specs.List.{AllByRecursion}
 use Rattle.port.specs.Port.{Outflow, lost_of}
 use Rattle.model.specs.Figures.{Role, counted, mark, other, one_counted, counted_in}
-use Rattle.model.specs.Stretches.{Arrived, WasLost, lost_among, lost_in, good_among}
+use Rattle.model.specs.Stretches.{lost_among, lost_in, good_among}
 use Rattle.model.specs.WholeParts.{WholePart}
 use Rattle.model.proofs.Accounts.{Losses, with_got, with_lost, with_mark}
 

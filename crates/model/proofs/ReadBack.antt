@@ -1,13 +1,13 @@
 -- Every record of every run is well-formed.
-use Rattle.std.proofs.Common.{◌≡◌, ℕ, zero, suc, ◌+◌, ◌*◌, ◌<◌, ◌≤◌, Bool, true, false, cond, eqb, ltb, [], ◌∷◌, ◌++◌}
-use Rattle.std.proofs.Common.{get_or, replicate, Some, None, Ok, Err, Option, sym, refl, subst, append-nil, arith}
+use Rattle.std.proofs.Common.{◌≡◌, ℕ, ◌+◌, ◌*◌, ◌<◌, ◌≤◌, Bool, true, false, cond, eqb, ltb, [], ◌∷◌, ◌++◌}
+use Rattle.std.proofs.Common.{Some, None, Ok, Err, Option, sym, refl, subst, append-nil, arith}
 use Rattle.ring.specs.Queue.{head?}
 use Rattle.symbol.specs.declared.Frame.{Frame}
 use Rattle.eventlog.specs.declared.event.Event.TheVariants as event
 use Rattle.eventlog.specs.declared.event.FrameKind.{FrameKind}
 use Rattle.eventlog.specs.declared.event.FrameKind.TheVariants.{Freed, Injected, Collected}
 use Rattle.bank.specs.Bank.{BankCalls, LawfulBank}
-use Rattle.port.specs.Port.{next_frame, Port, Turn, no_act, handed_out, released, injected_at, logged_in, new_port}
+use Rattle.port.specs.Port.{next_frame, Port, Turn, no_act, handed_out, released, injected_at, logged_in}
 use Rattle.symbol.specs.declared.end.End.{End}
 use Rattle.symbol.specs.declared.end.End.TheVariants.{West, East}
 use Rattle.model.specs.declared.Refusal.{Refusal}

@@ -23,7 +23,7 @@ use Rattle.reader.specs.Reading.{WellFormed}
 use Rattle.bank.specs.Bank.{BankCalls, LawfulBank}
 use Rattle.port.specs.Port.{Buffers, Port, Turn, and_then, logged_in, lost_of, frames_found, rrdys_found, correction, is_full}
 use Rattle.port.specs.Port.{frame_held, credit_back, received, receive_events, frame_of, choice, after_send, emptied}
-use Rattle.port.specs.Port.{sent_on, unsent, with_buffers, lent_out, handed_out, among, without, freed_of, released}
+use Rattle.port.specs.Port.{sent_on, unsent, with_buffers, lent_out, handed_out, among, without, released}
 use Rattle.port.specs.Port.{next_frame, injected_at}
 use Rattle.model.specs.Chain.{Chain, facing, behind, is_end, freed_events, sound, symbols, port_of, with_port}
 use Rattle.model.specs.Chain.{with_bank, on, each_port, takes_item, takes, source, drawn, sends_symbol, sends, ticked}

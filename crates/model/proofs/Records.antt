@@ -1,5 +1,5 @@
 -- The records of one port in a log that grows.
-use Rattle.std.proofs.Common.{◌≡◌, ℕ, ◌<◌, Bool, true, false, cond, eqb, List, [], ◌∷◌, ◌++◌, sym, refl, ap, ◌∙◌}
+use Rattle.std.proofs.Common.{◌≡◌, ℕ, ◌<◌, Bool, true, false, cond, eqb, [], ◌∷◌, ◌++◌, sym, refl, ap, ◌∙◌}
 use Rattle.std.proofs.Common.{subst, append_assoc, append-nil, rules}
 use mathlib.Core.Path.{fun_ext}
 use Rattle.std.specs.List.{AllByRecursion}
@@ -17,7 +17,6 @@ use Rattle.eventlog.specs.declared.event.ItemKind.TheVariants.{Put, Got, Lost as
 use Rattle.port.specs.Port.{Port, frames_found, rrdys_found}
 use Rattle.model.specs.Run.{Log}
 use Rattle.model.specs.Figures.{is_at, records}
-use Rattle.model.specs.Stretches.{Passage, Stretches}
 use Rattle.model.proofs.Accounts.{Account, noted, noted_all, account, no_account, buffers_in_use, credit_used}
 use Rattle.model.proofs.Loop.{taken_events}
 

@@ -1,5 +1,5 @@
 -- Every run, from the cabling on.
-use Rattle.std.proofs.Common.{◌≡◌, ℕ, zero, suc, ◌+◌, ◌-◌, ◌*◌, ◌/◌, ◌%◌, ◌^◌, ◌<◌, ◌≤◌, Bool, true, false, cond, ◌||◌}
+use Rattle.std.proofs.Common.{◌≡◌, ℕ, zero, suc, ◌+◌, ◌*◌, ◌/◌, ◌%◌, ◌^◌, ◌<◌, ◌≤◌, Bool, true, false, cond, ◌||◌}
 use Rattle.std.proofs.Common.{eqb, ltb, leb, ◌≢◌, ◌⊎◌, List, [], ◌∷◌, ◌++◌, length, get_or, set, replicate, Some, None}
 use Rattle.std.proofs.Common.{Ok, Err, Option, Result, sym, refl, ap, ◌∙◌, subst, inl, inr, append-nil, le_refl, arith}
 use Rattle.std.proofs.Common.{length-set, pow_pos}
@@ -12,12 +12,12 @@ use Rattle.symbol.specs.declared.Item.{Item}
 use Rattle.eventlog.specs.declared.event.Event.TheVariants as event
 use Rattle.eventlog.specs.declared.event.FrameKind.TheVariants.{Freed}
 use Rattle.bank.specs.Bank.{BankCalls, LawfulBank, count}
-use Rattle.port.specs.Port.{Buffers, freed_of, Port, Turn, no_act, among, handed_out, released, injected_at, logged_in}
+use Rattle.port.specs.Port.{Buffers, Port, Turn, no_act, among, handed_out, released, injected_at, logged_in}
 use Rattle.port.specs.Port.{new_port}
 use Rattle.symbol.specs.declared.end.End.{End}
 use Rattle.model.specs.declared.Refusal.{Refusal}
 use Rattle.model.specs.declared.Refusal.TheVariants as refusal
-use Rattle.model.specs.Chain.{injected, call_bytes, last_tick, Chain, facing, port_of, with_port, end_port, all_idle}
+use Rattle.model.specs.Chain.{injected, call_bytes, last_tick, Chain, port_of, with_port, end_port, all_idle}
 use Rattle.model.specs.Chain.{cabled_links, cabled, stepped, from_oldest, collectable, collects_by, collects}
 use Rattle.model.specs.Chain.{released_at, logs_in, logins, step_refusal, inject_refusal, release_refusal}
 use Rattle.model.specs.Chain.{login_refusal, unless_refused, symbols, on}

@@ -1,5 +1,4 @@
 use Rattle.model.specs.Chain.{takes}
-use Rattle.chain.specs.View.{chain_of}
 use Rattle.chain.proofs.Acts.{each_more}
 use Rattle.chain.proofs.inner.Inner.take_all.Goals as goal
 
