@@ -66,45 +66,44 @@ marks_mod m x y (r ∷ rs) e h = (
 )
 
 module _ (n : ℕ) (out : Outflow) (got : ℕ) (x : Losses) where
+  -- one more is put, which leaves the sender's count at o
+  put_more : (r : Role) (o : Outflow) (rs : List Role)
+      → (out.sent ≡ (got + open_lost x + counted_in rs) % 2 ^ n
+      → o.sent ≡ (got + open_lost x + (counted_in rs + one_counted r)) % 2 ^ n)
+      → (o.due ≡ true → o.sent ≡ 0)
+      → AtMark r (2 ^ n) (got + open_lost x + counted_in rs)
+      → InStep n out got rs x → InStep n o got (rs ++ (r ∷ [])) x
+  put_more r o rs sent due at h = record {
+    sent_is = sent h.sent_is ∙ ap (λ (z : ℕ). (got + open_lost x + z) % 2 ^ n) (sym (counted-snoc rs r));
+    due_is = due;
+    marks = marks-snoc _ _ rs r h.marks at;
+    below = h.below;
+    good = h.good;
+    ended = h.ended;
+  }
+
   pub put_counted : (rs : List Role) → out.due ≡ false → InStep n out got rs x
       → InStep n (record {
         sent = (out.sent + 1) % 2 ^ n;
         due = out.due || (eqb ((out.sent + 1) % 2 ^ n) 0 && ltb 0 n);
       }) got (rs ++ (counted ∷ [])) x
-  put_counted rs off h = record {
-    sent_is = ap (λ (z : ℕ). (z + 1) % 2 ^ n) h.sent_is ∙ mod-add-mod (got + open_lost x + counted_in rs) (2 ^ n) 1
-        ∙ ap (λ (z : ℕ). z % 2 ^ n) (omega (arith, counted-snoc rs counted));
-    due_is =
-        λ d. eqb-true _ _
-        (and_parts _ _ (subst (λ (t : Bool). (t || (eqb ((out.sent + 1) % 2 ^ n) 0 && ltb 0 n)) ≡ true) off d)).0;
-    marks = marks-snoc _ _ rs counted h.marks tt;
-    below = h.below;
-    good = h.good;
-    ended = h.ended;
-  }
+  put_counted rs off h =
+      put_more counted _ rs
+      (λ e. ap (λ (z : ℕ). (z + 1) % 2 ^ n) e ∙ mod-add-mod (got + open_lost x + counted_in rs) (2 ^ n) 1
+      ∙ ap (λ (z : ℕ). z % 2 ^ n) (omega arith))
+      (λ d. eqb-true _ _
+      (and_parts _ _ (subst (λ (t : Bool). (t || (eqb ((out.sent + 1) % 2 ^ n) 0 && ltb 0 n)) ≡ true) off d)).0) tt h
 
   pub put_mark : (rs : List Role) → out.due ≡ true → InStep n out got rs x → InStep n (record {
     sent = out.sent;
     due = false;
   }) got (rs ++ (mark ∷ [])) x
-  put_mark rs d h = record {
-    sent_is = h.sent_is ∙ ap (λ (z : ℕ). z % 2 ^ n) (omega (arith, counted-snoc rs mark));
-    due_is = λ e. h.due_is d;
-    marks = marks-snoc _ _ rs mark h.marks (sym h.sent_is ∙ h.due_is d);
-    below = h.below;
-    good = h.good;
-    ended = h.ended;
-  }
+  put_mark rs d h =
+      put_more mark _ rs (λ e. e ∙ ap (λ (z : ℕ). z % 2 ^ n) (omega arith)) (λ e. h.due_is d)
+      (sym h.sent_is ∙ h.due_is d) h
 
   pub put_other : (rs : List Role) → InStep n out got rs x → InStep n out got (rs ++ (other ∷ [])) x
-  put_other rs h = record {
-    sent_is = h.sent_is ∙ ap (λ (z : ℕ). z % 2 ^ n) (omega (arith, counted-snoc rs other));
-    due_is = h.due_is;
-    marks = marks-snoc _ _ rs other h.marks tt;
-    below = h.below;
-    good = h.good;
-    ended = h.ended;
-  }
+  put_other rs h = put_more other _ rs (λ e. e ∙ ap (λ (z : ℕ). z % 2 ^ n) (omega arith)) h.due_is tt h
 
   -- what is not counted is taken
   take_uncounted : (r : Role) (rs : List Role) → one_counted r ≡ 0 → InStep n out got (r ∷ rs) x → InStep n out got rs x

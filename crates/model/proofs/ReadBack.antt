@@ -20,7 +20,7 @@ use Rattle.model.proofs.Places.{end_below}
 use Rattle.model.proofs.Readable.{FineNumber, FineSymbols, FinePort, FineOldest, Fine, FineTurn, FineRun, fresh_fine}
 use Rattle.model.proofs.Readable.{well_frame, fine_port, fine_more, oldest_fine, handed_out_fine, released_fine}
 use Rattle.model.proofs.Readable.{next_fine, injected_fine, number_found, step_fine}
-use Rattle.model.proofs.Runs.{unless, new_ports, cabling, some_links, passed, login_fits, step_early, released_out, run_bounded}
+use Rattle.model.proofs.Runs.{collect_cases, unless, new_ports, cabling, some_links, passed, login_fits, step_early, released_out, run_bounded}
 
 module _ {B : Type 0} (M : BankCalls B) (law : (b : B) → LawfulBank M b) where
   -- every record of a run is well-formed
@@ -51,24 +51,12 @@ module _ {B : Type 0} (M : BankCalls B) (law : (b : B) → LawfulBank M b) where
   collect_fine : (c : Chain B) (l : Log) (e : End) (room : ℕ) → FineRun M c l
       → FineRun M (collects M c e room).state (l ++ (collects M c e room).events)
   collect_fine c l e room h =
-      go (eqb c.links 0) (head? (port_of c (end_port c e)).buffers.waiting) refl
-      (oldest_fine (port_of c (end_port c e)).buffers.waiting (h.state.ports (end_port c e)).wait)
-    where
-      last : (f : Frame) (u : Bool) → eqb c.links 0 ≡ false → FineNumber f.number
-          → FineRun M (collects_by M c e (cond u (Err refusal.SheetFull) (Ok f))).state
-          (l ++ (collects_by M c e (cond u (Err refusal.SheetFull) (Ok f))).events)
-      last f true z w = same_run c l h
-      last f false z w =
-          fine_more M c l (collects_by M c e (Ok f)) h
-          (end_fine c e Collected f (handed_out (port_of c (end_port c e))) (some_links M law c z) h.state
-          (handed_out_fine (port_of c (end_port c e)) (h.state.ports (end_port c e))) w)
-
-      go : (t : Bool) (o : Option Frame) → eqb c.links 0 ≡ t → FineOldest o
-          → FineRun M (collects_by M c e (cond t (Err refusal.NoLinks) (from_oldest M o room))).state
-          (l ++ (collects_by M c e (cond t (Err refusal.NoLinks) (from_oldest M o room))).events)
-      go true o z w = same_run c l h
-      go false None z w = same_run c l h
-      go false (Some f) z w = last f (ltb room call_bytes) z w
+      let s = port_of c (end_port c e) in
+      let wait = (h.state.ports (end_port c e)).wait in
+      collect_cases M law (λ t. FineRun M t.state (l ++ t.events)) c e room (same_run c l h)
+      (λ k some w. fine_more M c l (collects_by M c e (Ok k)) h
+      (end_fine c e Collected k (handed_out s) some h.state (handed_out_fine s (h.state.ports (end_port c e)))
+      (subst FineOldest w (oldest_fine s.buffers.waiting wait))))
 
   release_fine : (c : Chain B) (e : End) (k room : ℕ) → Fine M c → release_refusal M c e k room ≡ None
       → FineTurn M (released_at M c e k)

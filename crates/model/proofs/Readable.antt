@@ -244,9 +244,18 @@ module _ {B : Type 0} (M : BankCalls B) where
     channels = h.channels;
   }
 
-  fine_bank : (c : Chain B) (b : B) → Fine c
-      → ((d : ℕ) → d < 2 * c.links → FineSymbols (symbols (M.known b d).items)) → Fine (with_bank c b)
-  fine_bank c b h z = record { links = h.links; ports = h.ports; channels = z }
+  -- a bank changed at one direction
+  fine_bank : (c : Chain B) (b : B) (p : ℕ) → Fine c → FineSymbols (symbols (M.known b p).items)
+      → ((d : ℕ) → d ≢ p → symbols (M.known b d).items ≡ on M c d) → Fine (with_bank c b)
+  fine_bank c b p h here off = record {
+    links = h.links;
+    ports = h.ports;
+    channels = λ d z. go d z (cases_eq d p);
+  }
+    where
+      go : (d : ℕ) → d < 2 * c.links → (d ≡ p) ⊎ (d ≡ p → ⊥) → FineSymbols (symbols (M.known b d).items)
+      go d z (inl q) = subst (λ (v : ℕ). FineSymbols (symbols (M.known b v).items)) (sym q) here
+      go d z (inr n) = subst FineSymbols (sym (off d n)) (h.channels d z)
 
   fine_then : (t : Turn (Chain B)) (f : Chain B → Turn (Chain B)) → FineTurn t → FineTurn (f t.state)
       → FineTurn (and_then t f)
@@ -259,20 +268,6 @@ module _ {B : Type 0} (M : BankCalls B) where
     takes_fine : (c : Chain B) (p : ℕ) → p < 2 * c.links → Fine c → FineTurn (takes M c p)
     takes_fine c p lt h = go (M.known c.bank (facing p)).ready (M.known c.bank (facing p)).items refl refl
       where
-        taken_at : (i : Item) (is : List Item) → (M.known c.bank (facing p)).ready ≡ true
-            → (M.known c.bank (facing p)).items ≡ i ∷ is
-            → (FineSymbol i.symbol) × (FineSymbols (symbols is))
-            → (d : ℕ) → d < 2 * c.links → FineSymbols (symbols (M.known (M.take c.bank (facing p)) d).items)
-        taken_at i is e f z d below = by (cases_eq d (facing p))
-          where
-            by : (d ≡ facing p) ⊎ (d ≡ facing p → ⊥)
-                → FineSymbols (symbols (M.known (M.take c.bank (facing p)) d).items)
-            by (inl q) =
-                subst (λ (v : ℕ). FineSymbols (symbols (M.known (M.take c.bank (facing p)) v).items)) (sym q)
-                (subst (λ (xs : List Item). FineSymbols (symbols xs))
-                (sym (bank_take M law c.bank (facing p) i is e f)) z.1)
-            by (inr n) = subst FineSymbols (sym (bank_take_off M law c.bank (facing p) d n)) (h.channels d below)
-
         go : (t : Bool) (xs : List Item) → (M.known c.bank (facing p)).ready ≡ t
             → (M.known c.bank (facing p)).items ≡ xs
             → FineTurn (takes_item M (with_bank c (M.take c.bank (facing p))) p (cond t (head? xs) None))
@@ -289,7 +284,10 @@ module _ {B : Type 0} (M : BankCalls B) where
               state =
                   fine_port (with_bank c (M.take c.bank (facing p))) p
                   (received (port_of c p) i.note i.symbol)
-                  (fine_bank c (M.take c.bank (facing p)) h (taken_at i is e f z))
+                  (fine_bank c (M.take c.bank (facing p)) (facing p) h
+                  (subst (λ (xs : List Item). FineSymbols (symbols xs))
+                  (sym (bank_take M law c.bank (facing p) i is e f)) z.1)
+                  (λ d n. bank_take_off M law c.bank (facing p) d n))
                   (received_fine (port_of c p) (h.ports p) i.note i.symbol z.0);
               events =
                   received_well p (correction (port_of c p) i.note i.symbol) i.note i.symbol
@@ -337,17 +335,6 @@ module _ {B : Type 0} (M : BankCalls B) where
         sent_still : (o : Option Symbol) → Fine (with_sent c p o)
         sent_still o = fine_port c p (after_send (port_of c p) o) h (sent_fine (port_of c p) (h.ports p) o)
 
-        put_at : (y : Symbol) → (M.known c.bank p).space ≡ true → FineSymbol y
-            → (d : ℕ) → d < 2 * c.links → FineSymbols (symbols (M.known (M.put c.bank p (sound y)) d).items)
-        put_at y e z d below = by (cases_eq d p)
-          where
-            by : (d ≡ p) ⊎ (d ≡ p → ⊥) → FineSymbols (symbols (M.known (M.put c.bank p (sound y)) d).items)
-            by (inl q) =
-                subst (λ (v : ℕ). FineSymbols (symbols (M.known (M.put c.bank p (sound y)) v).items)) (sym q)
-                (subst FineSymbols (sym (bank_put M law c.bank p y e))
-                (All-append FineSymbol (on M c p) (y ∷ []) (h.channels p lt) (z, tt)))
-            by (inr n) = subst FineSymbols (sym (bank_put_off M law c.bank p d y n)) (h.channels d below)
-
         go : (t : Bool) (o : Option Symbol) → (M.known c.bank p).space ≡ t → FineChoice o
             → FineTurn (sends_symbol M (with_sent c p (cond t o None)) p (cond t o None))
         go false o e z = record { state = sent_still None; events = tt }
@@ -355,8 +342,10 @@ module _ {B : Type 0} (M : BankCalls B) where
         go true (Some y) e z = record {
           state =
               drawn_fine (with_bank (with_sent c p (Some y)) (M.put c.bank p (sound y))) p y
-              (fine_bank (with_sent c p (Some y)) (M.put c.bank p (sound y)) (sent_still (Some y))
-              (put_at y e z));
+              (fine_bank (with_sent c p (Some y)) (M.put c.bank p (sound y)) p (sent_still (Some y))
+              (subst FineSymbols (sym (bank_put M law c.bank p y e))
+              (All-append FineSymbol (on M c p) (y ∷ []) (h.channels p lt) (z, tt)))
+              (λ d n. bank_put_off M law c.bank p d y n));
           events = (well_item Put p y (omega (arith, lt, h.links)) z, freed_well c.links p y h.links lt z);
         }
 

@@ -267,26 +267,28 @@ module _ {B : Type 0} (M : BankCalls B) (law : (b : B) → LawfulBank M b) where
     cuts = λ p z. absurd (omega arith);
   }
 
-  collect_after : (c : Chain B) (l : Log) (e : End) (room : ℕ) → Invariant M c l → Kept M l (collects M c e room)
-  collect_after c l e room h = go (eqb c.links 0) (head? (port_of c (end_port c e)).buffers.waiting) refl refl
+  -- a collect is refused, or hands out the oldest frame at its end
+  pub collect_cases : (P : Turn (Chain B) → Type 0) (c : Chain B) (e : End) (room : ℕ) → P (no_act c)
+      → ((k : Frame) → 0 < c.links → head? (port_of c (end_port c e)).buffers.waiting ≡ Some k
+      → P (collects_by M c e (Ok k)))
+      → P (collects M c e room)
+  collect_cases P c e room same out =
+      go (eqb c.links 0) (head? (port_of c (end_port c e)).buffers.waiting) refl refl
     where
-      same : Kept M l (no_act c)
-      same = subst (Invariant M c) (sym (append-nil l)) h
-
-      last : (k : Frame) (u : Bool) → eqb c.links 0 ≡ false
-          → head? (port_of c (end_port c e)).buffers.waiting ≡ Some k
-          → Kept M l (collects_by M c e (cond u (Err refusal.SheetFull) (Ok k)))
-      last k true z w = same
-      last k false z w =
-          collect_kept M law c l e k (tail (port_of c (end_port c e)).buffers.waiting) h (some_links c z)
-          (first_is (port_of c (end_port c e)).buffers.waiting k w)
-
       go : (t : Bool) (o : Option Frame) → eqb c.links 0 ≡ t
           → head? (port_of c (end_port c e)).buffers.waiting ≡ o
-          → Kept M l (collects_by M c e (cond t (Err refusal.NoLinks) (from_oldest M o room)))
+          → P (collects_by M c e (cond t (Err refusal.NoLinks) (from_oldest M o room)))
       go true o z w = same
       go false None z w = same
-      go false (Some k) z w = last k (ltb room call_bytes) z w
+      go false (Some k) z w =
+          cond_both (ltb room call_bytes) (Err refusal.SheetFull) (Ok k)
+          (λ (r : Result Frame Refusal). P (collects_by M c e r)) (λ u. same) (λ u. out k (some_links c z) w)
+
+  collect_after : (c : Chain B) (l : Log) (e : End) (room : ℕ) → Invariant M c l → Kept M l (collects M c e room)
+  collect_after c l e room h =
+      collect_cases (Kept M l) c e room (subst (Invariant M c) (sym (append-nil l)) h)
+      (λ k some w. collect_kept M law c l e k (tail (port_of c (end_port c e)).buffers.waiting) h some
+      (first_is (port_of c (end_port c e)).buffers.waiting k w))
 
   released_all : (s : Port) (k : ℕ) → (released s k).buffers.all ≡ s.buffers.all
   released_all s k =
