@@ -115,33 +115,30 @@ module _ {B : Type 0} (M : BankCalls B) (law : (b : B) → LawfulBank M b) where
         ∙ ap {B = List Symbol} (λ z. z ++ on M c p) (told (facing p) l).taken_are
 
     -- the whole parts of the account are those of the stretches of the puts
-    wholes : (p : ℕ) (k : Stream) (x : Losses) → Wholes (port_of c p).n x → x.lost ≡ reported_lost k (facing p) l
-        → x.good ≡ made_good k (facing p) l
-        → SameLosses x.cut (stretches k p l) → InParts (port_of c p).n k p l
-    wholes p k x w lost good same = record {
-      each = subst (AllByRecursion (WholePart (port_of c p).n)) (sym same.ended) w.each;
-      all_lost = sym lost ∙ w.all_lost ∙ (λ i. sym same.lost i + lost_in (sym same.ended i));
-      all_good = sym good ∙ w.all_good ∙ ap good_among (sym same.ended);
-    }
+    wholes : (p : ℕ) (k : Stream) (x : Losses) → p < 2 * c.links → Wholes (port_of c p).n x
+        → x.lost ≡ reported_lost k (facing p) l → x.good ≡ made_good k (facing p) l
+        → cut k nothing_put (account (facing p) l).takes ≡ x.cut → InParts (port_of c p).n k p l
+    wholes p k x lt w lost good cuts =
+        let same =
+        put_stretches k (puts p l) (taken (facing p) l) (on M c p) x.cut (in_turn p lt)
+        (ap (cut k nothing_put) (sym (told (facing p) l).takes_are) ∙ cuts) in
+        record {
+          each = subst (AllByRecursion (WholePart (port_of c p).n)) (sym same.ended) w.each;
+          all_lost = sym lost ∙ w.all_lost ∙ (λ i. sym same.lost i + lost_in (sym same.ended i));
+          all_good = sym good ∙ w.all_good ∙ ap good_among (sym same.ended);
+        }
 
     parts : (p : ℕ) (k : Stream) → p < 2 * c.links → InParts (port_of c p).n k p l
     parts p Frames lt =
         let q = told (facing p) l in
-        wholes p Frames (account (facing p) l).frames.losses (sends_in p lt).frames.ended q.frames_lost
-        q.frames_good
-        (put_stretches Frames (puts p l) (taken (facing p) l) (on M c p) (account (facing p) l).frames.losses.cut
-        (in_turn p lt)
-        (ap (cut Frames nothing_put) (sym q.takes_are)
-        ∙ (h.cuts (facing p) (facing_below c.links p (facing p) refl lt)).frames))
+        wholes p Frames (account (facing p) l).frames.losses lt (sends_in p lt).frames.ended q.frames_lost
+        q.frames_good (h.cuts (facing p) (facing_below c.links p (facing p) refl lt)).frames
     parts p RRdys lt =
         let q = told (facing p) l in
-        wholes p RRdys (account (facing p) l).rrdys.losses
+        wholes p RRdys (account (facing p) l).rrdys.losses lt
         (subst (λ (n : ℕ). Wholes n (account (facing p) l).rrdys.losses) (takes_in p lt).figures.same_n
         (takes_in p lt).rrdys.ended) q.rrdys_lost q.rrdys_good
-        (put_stretches RRdys (puts p l) (taken (facing p) l) (on M c p) (account (facing p) l).rrdys.losses.cut
-        (in_turn p lt)
-        (ap (cut RRdys nothing_put) (sym q.takes_are)
-        ∙ (h.cuts (facing p) (facing_below c.links p (facing p) refl lt)).rrdys))
+        (h.cuts (facing p) (facing_below c.links p (facing p) refl lt)).rrdys
 
     port_told : (p : ℕ) → p < 2 * c.links → PortTold c l p
     port_told p lt = let t = told p l in record {

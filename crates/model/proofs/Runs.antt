@@ -330,13 +330,6 @@ module _ {B : Type 0} (M : BankCalls B) (law : (b : B) → LawfulBank M b) where
     ports = with_within c.tick c.tick c p s w h.ports;
   }
 
-  collect_bounded : (c : Chain B) (e : End) (r : Result Frame Refusal) → Bounded c
-      → Bounded (collects_by M c e r).state
-  collect_bounded c e (Ok k) h =
-      end_bounded c (end_port c e) (handed_out (port_of c (end_port c e))) h
-      (handed_within c.tick c.tick (port_of c (end_port c e)) (h.ports (end_port c e)))
-  collect_bounded c e (Err r) h = h
-
   pub step_early : (c : Chain B) (room : ℕ) → Bounded c → step_refusal M c room ≡ None → c.tick < last_tick
   step_early c room h z =
       let n : c.tick ≢ last_tick =
@@ -384,7 +377,10 @@ module _ {B : Type 0} (M : BankCalls B) (law : (b : B) → LawfulBank M b) where
       (leb-false 32 (length (port_of c (end_port c e)).outbox.frames)
       (passed (leb 32 (length (port_of c (end_port c e)).outbox.frames)) refusal.OutboxFull _
       (passed (eqb c.links 0) refusal.NoLinks _ z).1).0)))
-  run_bounded (collect {c = c} m e room r) = collect_bounded c e (collectable M c e room) (run_bounded r)
+  run_bounded (collect {c = c} m e room r) =
+      collect_cases (λ t. Bounded t.state) c e room (run_bounded r)
+      (λ k some w. end_bounded c (end_port c e) (handed_out (port_of c (end_port c e))) (run_bounded r)
+      (handed_within c.tick c.tick (port_of c (end_port c e)) ((run_bounded r).ports (end_port c e))))
   run_bounded (release {c = c} m e k room r) =
       unless (λ t. Bounded t.state) (release_refusal M c e k room) c (released_at M c e k) (run_bounded r)
       (λ z. end_bounded c (end_port c e) (released (port_of c (end_port c e)) k) (run_bounded r)
@@ -424,11 +420,6 @@ module _ {B : Type 0} (M : BankCalls B) (law : (b : B) → LawfulBank M b) where
       unless (λ t. t.state.tick ≡ ticks (l ++ t.events)) r c t (h ∙ ap ticks (sym (append-nil l)))
       (λ e. f e ∙ sym (total-append tick_in l t.events))
 
-  collect_ticks : (c : Chain B) (e : End) (r : Result Frame Refusal) (l : Log) → c.tick ≡ ticks l
-      → (collects_by M c e r).state.tick ≡ ticks (l ++ (collects_by M c e r).events)
-  collect_ticks c e (Ok f) l h = omega (arith, h, total-append tick_in l (collects_by M c e (Ok f)).events)
-  collect_ticks c e (Err r) l h = h ∙ ap ticks (sym (append-nil l))
-
   pub run_ticks : {b : B} {ph : Phase} {c : Chain B} {l : Log} → Run M b ph c l → c.tick ≡ ticks l
   run_ticks new = refl
   run_ticks (login {c = c} k x y m n r) =
@@ -440,7 +431,9 @@ module _ {B : Type 0} (M : BankCalls B) (law : (b : B) → LawfulBank M b) where
       (λ z. omega (arith, run_ticks r, step_ticks M c, stepped_tick M c))
   run_ticks (inject {c = c} {l = l} e room r) =
       unless_ticks (inject_refusal M c e room) c (injected M c e) l (run_ticks r) (λ z. omega (arith, run_ticks r))
-  run_ticks (collect {c = c} {l = l} m e room r) = collect_ticks c e (collectable M c e room) l (run_ticks r)
+  run_ticks (collect {c = c} {l = l} m e room r) =
+      collect_cases (λ t. t.state.tick ≡ ticks (l ++ t.events)) c e room (run_ticks r ∙ ap ticks (sym (append-nil l)))
+      (λ k some w. omega (arith, run_ticks r, total-append tick_in l (collects_by M c e (Ok k)).events))
   run_ticks (release {c = c} {l = l} m e k room r) =
       unless_ticks (release_refusal M c e k room) c (released_at M c e k) l (run_ticks r)
       (λ z. omega (arith, run_ticks r))
