@@ -6,6 +6,7 @@ use Rattle.std.proofs.Common.{get_or-set_same, set-set}
 use mathlib.Core.Path.{transport}
 use lib.Seq.{set-get_or, set_comm}
 use Rattle.std.proofs.lemmas.Bool.{cond-false, eqb-true, eqb-false, eq-eqb, ne_eqb, cases_eq, ltb-true, or_cases}
+use Rattle.std.proofs.lemmas.Bool.Decides.{nat_tests}
 use Rattle.std.proofs.lemmas.Bool.{or_parts}
 use Rattle.ring.specs.Queue.{head?, tail}
 use Rattle.symbol.specs.declared.Frame.{Frame}
@@ -628,11 +629,7 @@ module _ {B : Type 0} (M : BankCalls B) (law : (b : B) → LawfulBank M b) where
     }
 
   outer : (c : Chain B) (x : ℕ) → is_end c.links x ≡ true → Inner c x → ⊥
-  outer c x e i = go (or_cases (eqb x 0) (eqb x (2 * c.links - 1)) e)
-    where
-      go : (eqb x 0 ≡ true) ⊎ (eqb x (2 * c.links - 1) ≡ true) → ⊥
-      go (inl q) = i.0 (eqb-true x 0 q)
-      go (inr q) = i.1 (eqb-true x (2 * c.links - 1) q)
+  outer c x e i = grind (arith, nat_tests)
 
   module _ (c : Chain B) (l : Log) (x : ℕ) (h : Invariant M c l) (lt : x < 2 * c.links)
       (space : (M.known c.bank x).space ≡ true) where

@@ -5,6 +5,7 @@ use Rattle.std.proofs.Common.{Ok, Err, Option, Result, sym, refl, ap, ◌∙◌,
 use Rattle.std.proofs.Common.{length-set, pow_pos}
 use native.Mathlib.Nat.{zero-mod}
 use lib.ListN.{length-replicate}
+use Rattle.std.proofs.lemmas.Bool.Decides.{nat_tests}
 use Rattle.std.proofs.lemmas.Bool.{cond_both, false≢true, eqb-false, cases_eq, leb-true, leb-false, and_parts, or_parts, ltb-false}
 use Rattle.ring.specs.Queue.{head?, tail, empty}
 use Rattle.symbol.specs.declared.Frame.{Frame}
@@ -297,11 +298,7 @@ module _ {B : Type 0} (M : BankCalls B) (law : (b : B) → LawfulBank M b) where
   -- a release that is not refused is of a number handed out
   pub released_out : (c : Chain B) (e : End) (k room : ℕ) → release_refusal M c e k room ≡ None
       → among k (port_of c (end_port c e)).buffers.out ≡ true
-  released_out c e k room z = go (among k (port_of c (end_port c e)).buffers.out) (ltb room call_bytes) z
-    where
-      go : (t u : Bool) → cond t (cond u (Some refusal.SheetFull) None) (Some refusal.NotHandedOut) ≡ None → t ≡ true
-      go true u w = refl
-      go false u w = cc
+  released_out c e k room z = grind (arith, nat_tests)
 
   release_after : (c : Chain B) (l : Log) (e : End) (k room : ℕ) → Invariant M c l
       → release_refusal M c e k room ≡ None → Kept M l (released_at M c e k)
@@ -331,27 +328,11 @@ module _ {B : Type 0} (M : BankCalls B) (law : (b : B) → LawfulBank M b) where
   }
 
   pub step_early : (c : Chain B) (room : ℕ) → Bounded c → step_refusal M c room ≡ None → c.tick < last_tick
-  step_early c room h z =
-      let n : c.tick ≢ last_tick =
-      eqb-false c.tick last_tick
-      (passed (eqb c.tick last_tick) refusal.LastTick _
-      (passed (eqb c.links 0) refusal.NoLinks _ z).1).0 in
-      omega (arith, h.tick)
+  step_early c room h z = grind (arith, nat_tests)
 
   -- what a login that is not refused has asked
   pub login_fits : (c : Chain B) (k x y m n : ℕ) → login_refusal M c k x y m n ≡ None → (x ≤ 32) × (y ≤ 32) × (n ≤ 15)
-  login_fits c k x y m n z =
-      let buffers-asked = (passed (leb c.links k) refusal.NoLinks _ z).1 in
-      let a = passed (ltb x 1 || (ltb 32 x || (ltb y 1 || ltb 32 y))) refusal.BadBuffers _ buffers-asked in
-      let n-asked = passed (ltb 15 m || ltb 15 n) refusal.BadN _ a.1 in
-      let b =
-      or_parts (ltb 32 x) (ltb y 1 || ltb 32 y)
-      (or_parts (ltb x 1) (ltb 32 x || (ltb y 1 || ltb 32 y)) a.0).1 in (
-        ltb-false 32 x b.0,
-        ltb-false 32 y (or_parts (ltb y 1) (ltb 32 y) b.1).1,
-        ltb-false 15 n
-            (or_parts (ltb 15 m) (ltb 15 n) n-asked.0).1,
-      )
+  login_fits c k x y m n z = grind (arith, nat_tests)
 
   pub run_bounded : {b : B} {ph : Phase} {c : Chain B} {l : Log} → Run M b ph c l → Bounded c
   run_bounded {b} new = record {
