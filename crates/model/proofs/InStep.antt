@@ -2,6 +2,7 @@
 use Rattle.std.proofs.Common.{◌≡◌, ℕ, suc, ◌+◌, ◌-◌, ◌%◌, ◌^◌, ◌<◌, ◌≤◌, Bool, true, false, ◌&&◌, ◌||◌, eqb, ltb, List}
 use Rattle.std.proofs.Common.{[], ◌∷◌, ◌++◌, sym, refl, ap, ◌∙◌, subst, mod-lt, mod-eq_of_lt, arith, pow_pos}
 use native.Mathlib.Nat.{mod-le, mod-add-mod, add-mod-mod, add-mod_left, mod-add-div, zero-mod}
+use Rattle.std.proofs.lemmas.Bool.Decides.{nat_tests}
 use Rattle.std.proofs.lemmas.Bool.{and_parts, eqb-true}
 use Rattle.std.specs.List.{AllByRecursion}
 use Rattle.port.specs.Port.{Outflow, lost_of}
@@ -91,8 +92,7 @@ module _ (n : ℕ) (out : Outflow) (got : ℕ) (x : Losses) where
       put_more counted _ rs
       (λ e. ap (λ (z : ℕ). (z + 1) % 2 ^ n) e ∙ mod-add-mod (got + open_lost x + counted_in rs) (2 ^ n) 1
       ∙ ap (λ (z : ℕ). z % 2 ^ n) (omega arith))
-      (λ d. eqb-true _ _
-      (and_parts _ _ (subst (λ (t : Bool). (t || (eqb ((out.sent + 1) % 2 ^ n) 0 && ltb 0 n)) ≡ true) off d)).0) tt h
+      (λ d. grind (arith, nat_tests)) tt h
 
   pub put_mark : (rs : List Role) → out.due ≡ true → InStep n out got rs x → InStep n (record {
     sent = out.sent;

@@ -3,6 +3,7 @@ use Rattle.std.proofs.Common.{◌≡◌, ℕ, zero, suc, ◌+◌, ◌-◌, ◌*�
 use Rattle.std.proofs.Common.{eqb, ltb, ◌≢◌, ◌⊎◌, List, [], ◌∷◌, ◌++◌, Some, None, Option, sym, refl, subst, inl, inr}
 use Rattle.std.proofs.Common.{mod-lt, arith, pow_pos, pow_mono}
 use Rattle.std.proofs.ByRecursion.{All-append}
+use Rattle.std.proofs.lemmas.Bool.Decides.{nat_tests}
 use Rattle.std.proofs.lemmas.Bool.{cond_both, lt-ltb, eqb-false, eqb-true, cases_eq, or_parts, false≢true}
 use Rattle.std.specs.List.{AllByRecursion}
 use Rattle.ring.specs.Queue.{head?, tail}
@@ -211,11 +212,7 @@ choice_fine s o z =
 -- a number that is among fine ones is fine
 pub number_found : (k : ℕ) (xs : List ℕ) → among k xs ≡ true → AllByRecursion FineNumber xs → FineNumber k
 number_found k [] e z = absurd (false≢true e)
-number_found k (x ∷ xs) e z = go (eqb x k) refl e (λ q. number_found k xs q z.1)
-  where
-    go : (t : Bool) → eqb x k ≡ t → (t || among k xs) ≡ true → (among k xs ≡ true → FineNumber k) → FineNumber k
-    go true q e r = subst FineNumber (eqb-true x k q) z.0
-    go false q e r = r e
+number_found k (x ∷ xs) e z = grind (arith, nat_tests, number_found k xs)
 
 module _ {B : Type 0} (M : BankCalls B) where
   pub record Fine (c : Chain B) : Type 0 where

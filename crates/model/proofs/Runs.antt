@@ -202,21 +202,11 @@ module _ {B : Type 0} (M : BankCalls B) (law : (b : B) → LawfulBank M b) where
     pub few : k ≤ 8
     pub idle : (d : ℕ) → d < 2 * k → symbols (M.known b d).items ≡ []
 
-  no_cabling : (b : B) → Cabling b 0
-  no_cabling b = record { few = omega arith; idle = λ d z. absurd (omega arith) }
-
   pub cabling : (b : B) → Cabling b (cabled_links M b)
-  cabling b = go (eqb (count M b % 2) 0) (leb (count M b) 16) (all_idle M b (count M b)) refl refl
-    where
-      go : (t u v : Bool) → leb (count M b) 16 ≡ u → all_idle M b (count M b) ≡ v
-          → Cabling b (cond t (cond u (cond v (count M b / 2) 0) 0) 0)
-      go false u v f g = no_cabling b
-      go true false v f g = no_cabling b
-      go true true false f g = no_cabling b
-      go true true true f g = record {
-        few = omega (arith, leb-true (count M b) 16 f);
-        idle = λ d z. all_idle_at b (count M b) d g (omega arith);
-      }
+  cabling b = record {
+    few = grind (arith, nat_tests);
+    idle = λ d z. grind (arith, nat_tests, all_idle_at b (count M b) d);
+  }
 
   cabled_fresh : (b : B) → Fresh (cabled M b)
   cabled_fresh b = record {
@@ -331,7 +321,8 @@ module _ {B : Type 0} (M : BankCalls B) (law : (b : B) → LawfulBank M b) where
   step_early c room h z = grind (arith, nat_tests)
 
   -- what a login that is not refused has asked
-  pub login_fits : (c : Chain B) (k x y m n : ℕ) → login_refusal M c k x y m n ≡ None → (x ≤ 32) × (y ≤ 32) × (n ≤ 15)
+  pub login_fits : (c : Chain B) (k x y m n : ℕ) → login_refusal M c k x y m n ≡ None
+      → (x ≤ 32) × (y ≤ 32) × (n ≤ 15) × (k < c.links)
   login_fits c k x y m n z = grind (arith, nat_tests)
 
   pub run_bounded : {b : B} {ph : Phase} {c : Chain B} {l : Log} → Run M b ph c l → Bounded c

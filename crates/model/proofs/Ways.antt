@@ -1,6 +1,7 @@
 -- The frames of a way: none is gained or gone, and none passes another.
 use Rattle.std.proofs.Common.{◌≡◌, ℕ, zero, suc, ◌+◌, ◌-◌, ◌*◌, ◌<◌, ◌≤◌, Bool, cond, eqb, ◌≢◌, ◌⊎◌, List, [], ◌∷◌}
 use Rattle.std.proofs.Common.{◌++◌, sym, refl, ap, ◌∙◌, subst, inl, inr, arith}
+use Rattle.std.proofs.lemmas.Bool.Decides.{nat_tests}
 use Rattle.std.proofs.lemmas.Bool.{eq-eqb, ne_eqb, cases_eq}
 use Rattle.symbol.specs.declared.Frame.{Frame}
 use Rattle.symbol.specs.declared.Symbol.{Symbol}
@@ -120,40 +121,12 @@ how_often-append k (x ∷ xs) ys = omega (arith, how_often-append k xs ys)
 -- each number from 1 to n is once among them
 pub up_to_out : (n k : ℕ) → (k ≡ 0) ⊎ (n < k) → how_often k (up_to n) ≡ 0
 up_to_out zero k h = refl
-up_to_out (suc n) k h =
-    omega (
-      arith,
-      how_often-append k (up_to n) (suc n ∷ []),
-      up_to_out n k (less h),
-      ap {B = ℕ}
-          (λ (t : Bool). cond t 1 0) (ne_eqb k (suc n) (λ e. omega (arith, h))),
-    )
-  where
-    less : (k ≡ 0) ⊎ (suc n < k) → (k ≡ 0) ⊎ (n < k)
-    less (inl e) = inl e
-    less (inr e) = inr (omega arith)
+up_to_out (suc n) k h = grind (arith, nat_tests, how_often-append k (up_to n) (suc n ∷ []), up_to_out n k)
 
 pub up_to_in : (n k : ℕ) → 0 < k → k ≤ n → how_often k (up_to n) ≡ 1
 up_to_in zero k h e = absurd (omega arith)
-up_to_in (suc n) k h e = go (cases_eq k (suc n)) (λ z. up_to_in n k h z)
-  where
-    go : (k ≡ suc n) ⊎ (k ≡ suc n → ⊥) → (k ≤ n → how_often k (up_to n) ≡ 1) → how_often k (up_to n ++ (suc n ∷ [])) ≡ 1
-    go (inl q) r =
-        omega (
-          arith,
-          how_often-append k (up_to n) (suc n ∷ []),
-          up_to_out n k (inr (omega arith)),
-          ap {B = ℕ}
-              (λ (t : Bool). cond t 1 0) (eq-eqb k (suc n) q),
-        )
-    go (inr q) r =
-        omega (
-          arith,
-          how_often-append k (up_to n) (suc n ∷ []),
-          r (let m : k ≢ suc n = q in omega arith),
-          ap {B = ℕ}
-              (λ (t : Bool). cond t 1 0) (ne_eqb k (suc n) q),
-        )
+up_to_in (suc n) k h e =
+    grind (arith, nat_tests, how_often-append k (up_to n) (suc n ∷ []), up_to_in n k, up_to_out n k)
 
 module _ {B : Type 0} (M : BankCalls B) (c : Chain B) where
   hop_first : (e : End) → hop c e 0 ≡ end_port c e
