@@ -6,7 +6,7 @@ use Rattle.eventlog.proofs.Sheets.{logs_nothing, logs_then}
 use Rattle.port.specs.Port.{Turn, and_then, no_act}
 use Rattle.bank.specs.Bank.{BankCalls}
 use Rattle.model.specs.Chain.{Chain, each_port, sends, stepped, takes, ticked}
-use Rattle.model.proofs.Links.{takes_links, each_links}
+use Rattle.model.proofs.Links.{takes_still, each_still}
 use Rattle.chain.specs.Acts.{Acted}
 
 module _ {C : Type 0} where
@@ -38,7 +38,7 @@ module _ {B : Type 0} (M : BankCalls B) (c x y z : Chain B) (s t u v : Sheet) wh
   step_acted tick take send =
       let same-x : x.links ≡ c.links = ap (λ w. w.links) tick.state in
       let same-y : y.links ≡ c.links =
-      ap (λ w. w.links) take.state ∙ each_links (takes M) (takes_links M) x (2 * x.links) ∙ same-x in
+      ap (λ w. w.links) take.state ∙ (each_still (takes M) (takes_still M) x (2 * x.links)).links ∙ same-x in
       let takes_all : Chain B → Turn (Chain B) = each_port (takes M) (2 * c.links) in
       let sends-all : Chain B → Turn (Chain B) = each_port (sends M) (2 * c.links) in
       let P : ℕ → Type 0 = λ n. Acted (each_port (takes M) (2 * n) x) t y u in

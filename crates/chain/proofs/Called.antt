@@ -46,14 +46,8 @@ module _ {C R : Type 0} (c : C) (t : Turn C) (a : Option Refusal → R) (s : She
       subst P (sym (not_refused o is))
       (record { state = state; log = wrote s u t.events inside left log; answers = answers })
 
--- The same of a collect, by the frame that it hands out.
+-- The same of a collect that hands out a frame.
 module _ {B : Type 0} (M : BankCalls B) (c : Chain B) (e : End) (s : Sheet) (q : Result Frame Refusal) where
-  pub refused_collect : (x : Refusal) (r : Result Token Refusal) → Err x ≡ q → r ≡ Err x
-      → Called (collects_by M c e q) (handed_over e q) s c s r
-  refused_collect x r is answers =
-      let P : Result Frame Refusal → Type 0 = λ y. Called (collects_by M c e y) (handed_over e y) s c s r in
-      subst P is (record { state = refl; log = wrote_nothing s; answers = answers })
-
   pub made_collect : (f : Frame) (d : Chain B) (u : Sheet) (r : Result Token Refusal) → Ok f ≡ q → call_bytes ≤ room s
       → d ≡ (collects_by M c e (Ok f)).state → Logs s (collects_by M c e (Ok f)).events u
       → r ≡ Ok (record { end = e; frame = f }) → Called (collects_by M c e q) (handed_over e q) s d u r

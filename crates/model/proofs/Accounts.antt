@@ -42,45 +42,40 @@ frame_last fs (symbol.Frame f) = fs ++ (f ∷ [])
 frame_last fs symbol.RRdy = fs
 frame_last fs (symbol.Mark m) = fs
 
+-- the losses after one more counted got, one more lost, and a sound mark that makes k good
+abbrev pub with_got : Losses → Losses
+with_got x = record {
+  lost = x.lost;
+  good = x.good;
+  cut = record { ended = x.cut.ended; still_open = Arrived 0 ∷ x.cut.still_open };
+}
+
+abbrev pub with_lost : Losses → Losses
+with_lost x = record {
+  lost = x.lost + 1;
+  good = x.good;
+  cut = record { ended = x.cut.ended; still_open = WasLost ∷ x.cut.still_open };
+}
+
+abbrev pub with_mark : Losses → ℕ → ℕ → Losses
+with_mark x good k = record {
+  lost = x.lost;
+  good = good;
+  cut = record { ended = record { fates = x.cut.still_open; good = k } ∷ x.cut.ended; still_open = [] };
+}
+
 abbrev pub one_put : Role → Tally → Tally
 one_put counted t = record { put = t.put + 1; got = t.got; losses = t.losses }
 one_put mark t = t
 one_put other t = t
 
 abbrev pub one_got : Role → Tally → Tally
-one_got counted t = record {
-  put = t.put;
-  got = t.got + 1;
-  losses = record {
-    lost = t.losses.lost;
-    good = t.losses.good;
-    cut = record { ended = t.losses.cut.ended; still_open = Arrived 0 ∷ t.losses.cut.still_open };
-  };
-}
-one_got mark t = record {
-  put = t.put;
-  got = t.got;
-  losses = record {
-    lost = t.losses.lost;
-    good = t.losses.good;
-    cut = record {
-      ended = record { fates = t.losses.cut.still_open; good = 0 } ∷ t.losses.cut.ended;
-      still_open = [];
-    };
-  };
-}
+one_got counted t = record { put = t.put; got = t.got + 1; losses = with_got t.losses }
+one_got mark t = record { put = t.put; got = t.got; losses = with_mark t.losses t.losses.good 0 }
 one_got other t = t
 
 abbrev pub one_missed : Role → Tally → Tally
-one_missed counted t = record {
-  put = t.put;
-  got = t.got;
-  losses = record {
-    lost = t.losses.lost + 1;
-    good = t.losses.good;
-    cut = record { ended = t.losses.cut.ended; still_open = WasLost ∷ t.losses.cut.still_open };
-  };
-}
+one_missed counted t = record { put = t.put; got = t.got; losses = with_lost t.losses }
 one_missed mark t = t
 one_missed other t = t
 

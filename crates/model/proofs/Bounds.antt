@@ -1,9 +1,9 @@
 -- No figure of a run comes near the largest that its field holds: in a step each port takes one item and sends one
 -- symbol at most.
-use Rattle.std.proofs.Common.{◌≡◌, ℕ, zero, suc, ◌+◌, ◌*◌, ◌<◌, ◌≤◌, Bool, true, false, cond, eqb, ◌≢◌, ◌⊎◌, List, []}
+use Rattle.std.proofs.Common.{◌≡◌, ℕ, zero, suc, ◌+◌, ◌*◌, ◌<◌, ◌≤◌, eqb, ◌≢◌, ◌⊎◌, List, []}
 use Rattle.std.proofs.Common.{◌∷◌, length, get_or, set, Some, None, Option, sym, refl, ap, ◌∙◌, subst, inl, inr, arith}
 use Rattle.std.proofs.Common.{length-append, get_or-set_other}
-use Rattle.std.proofs.lemmas.Bool.{cases_eq, cases_lt}
+use Rattle.std.proofs.lemmas.Bool.{cases_eq, cases_lt, cond_both}
 use Rattle.ring.specs.Queue.{tail}
 use Rattle.symbol.specs.declared.Frame.{Frame}
 use Rattle.symbol.specs.declared.Item.{Item}
@@ -14,12 +14,12 @@ use Rattle.symbol.specs.declared.Symbol.{Symbol}
 use Rattle.symbol.specs.declared.Symbol.TheVariants as symbol
 use Rattle.channel.specs.Calls.{handed}
 use Rattle.bank.specs.Bank.{BankCalls}
-use Rattle.port.specs.Port.{Port, Turn, new_port, logged_in, with_buffers, is_full, frame_held, credit_back, received}
+use Rattle.port.specs.Port.{Buffers, Port, Turn, new_port, logged_in, with_buffers, is_full, received}
 use Rattle.port.specs.Port.{after_send, unsent, emptied, sent_on, lent_out, handed_out, among, released, injected_at}
-use Rattle.port.specs.Port.{next_frame, freed_of}
+use Rattle.port.specs.Port.{next_frame}
 use Rattle.model.specs.Chain.{sent, Chain, behind, facing, port_of, with_port, with_bank, is_end, takes_item, takes}
 use Rattle.model.specs.Chain.{drawn, sends_symbol, sends, each_port, ticked, stepped, last_tick, outbox_places, sound}
-use Rattle.model.proofs.Links.{takes_still, sends_still, takes_links, sends_links, each_links, each_tick}
+use Rattle.model.proofs.Links.{takes_still, sends_still, each_still}
 
 -- the numbers of a port that has taken at most `took` items and sent at most `sent` symbols
 pub record Within (took sent : ℕ) (s : Port) : Type 0 where
@@ -55,20 +55,15 @@ module _ (m n : ℕ) (s : Port) (h : Within m n s) where
   taken_later : Within (m + 1) n s
   taken_later = later s (omega arith) (omega arith) h
 
-  held_within : (k : Frame) (t : Bool) → Within (m + 1) n (cond t s (frame_held s k))
-  held_within k true = taken_later
-  held_within k false = omega (arith, h, length-append s.buffers.waiting (k ∷ []))
-
-  back_within : (t : Bool) → Within (m + 1) n (cond t s (credit_back s))
-  back_within true = taken_later
-  back_within false = omega (arith, h)
-
   received_within : (v : Note) (y : Symbol) → Within (m + 1) n (received s v y)
   received_within Lost (symbol.Frame k) = omega (arith, h)
   received_within Lost symbol.RRdy = omega (arith, h)
   received_within Lost (symbol.Mark y) = taken_later
-  received_within Sound (symbol.Frame k) = held_within k (is_full s.buffers)
-  received_within Sound symbol.RRdy = back_within (eqb s.credit.used 0)
+  received_within Sound (symbol.Frame k) =
+      cond_both (is_full s.buffers) _ _ (Within (m + 1) n) (λ e. taken_later)
+      (λ e. omega (arith, h, length-append s.buffers.waiting (k ∷ [])))
+  received_within Sound symbol.RRdy =
+      cond_both (eqb s.credit.used 0) _ _ (Within (m + 1) n) (λ e. taken_later) (λ e. omega (arith, h))
   received_within Sound (symbol.Mark BbScS) = omega (arith, h)
   received_within Sound (symbol.Mark BbScR) = omega (arith, h)
 
@@ -97,38 +92,33 @@ module _ (m n : ℕ) (s : Port) (h : Within m n s) where
   handed_within = lent_within s.buffers.waiting refl
 
   pub released_within : (k : ℕ) → Within m n (released s k)
-  released_within k = go (among k s.buffers.out)
-    where
-      go : (t : Bool) → Within m n (with_buffers s (cond t (freed_of s.buffers k) s.buffers))
-      go true = omega (arith, h)
-      go false = h
+  released_within k =
+      cond_both (among k s.buffers.out) _ _ (λ (b : Buffers). Within m n (with_buffers s b)) (λ e. omega (arith, h))
+      (λ e. h)
 
   pub injected_within : length s.outbox.frames < 32 → Within m n (injected_at s)
   injected_within z = omega (arith, h, z, length-append s.outbox.frames (next_frame s ∷ []))
+
+-- a table with one port set
+pub at_port : (P : Port → Type 0) (ps : List Port) (p q : ℕ) (s : Port) → (q ≡ p → P s) → P (get_or ps q new_port)
+    → P (get_or (set ps p s) q new_port)
+at_port P [] p q s h k = k
+at_port P (x ∷ xs) zero zero s h k = h refl
+at_port P (x ∷ xs) zero (suc q) s h k = k
+at_port P (x ∷ xs) (suc p) zero s h k = k
+at_port P (x ∷ xs) (suc p) (suc q) s h k = at_port P xs p q s (λ e. h (ap suc e)) k
 
 -- a table with one port changed by g
 own_change : (P Q : Port → Type 0) (g : Port → Port) → ((s : Port) → P s → Q (g s)) → ((s : Port) → P s → Q s)
     → (ps : List Port) (p q : ℕ)
     → P (get_or ps q new_port) → Q (get_or (set ps p (g (get_or ps p new_port))) q new_port)
-own_change P Q g change stay [] p q h = stay new_port h
-own_change P Q g change stay (x ∷ xs) zero zero h = change x h
-own_change P Q g change stay (x ∷ xs) zero (suc q) h = stay (get_or xs q new_port) h
-own_change P Q g change stay (x ∷ xs) (suc p) zero h = stay x h
-own_change P Q g change stay (x ∷ xs) (suc p) (suc q) h = own_change P Q g change stay xs p q h
-
--- a table with one port set
-pub at_port : (P : Port → Type 0) (ps : List Port) (p q : ℕ) (s : Port) → P s → P (get_or ps q new_port)
-    → P (get_or (set ps p s) q new_port)
-at_port P [] p q s h k = k
-at_port P (x ∷ xs) zero zero s h k = h
-at_port P (x ∷ xs) zero (suc q) s h k = k
-at_port P (x ∷ xs) (suc p) zero s h k = k
-at_port P (x ∷ xs) (suc p) (suc q) s h k = at_port P xs p q s h k
+own_change P Q g change stay ps p q h =
+    at_port Q ps p q _ (λ e. change _ (subst (λ (v : ℕ). P (get_or ps v new_port)) e h)) (stay _ h)
 
 module _ {B : Type 0} where
   pub with_within : (m n : ℕ) (c : Chain B) (p : ℕ) (s : Port) → Within m n s → ((q : ℕ) → Within m n (port_of c q))
       → (q : ℕ) → Within m n (port_of (with_port c p s) q)
-  with_within m n c p s h k q = at_port (Within m n) c.ports p q s h (k q)
+  with_within m n c p s h k q = at_port (Within m n) c.ports p q s (λ e. h) (k q)
 
   other_port : (P : Port → Type 0) (c : Chain B) (p q : ℕ) (s : Port) → q ≢ p → P (port_of c q)
       → P (port_of (with_port c p s) q)
@@ -201,30 +191,18 @@ module _ {B : Type 0} (M : BankCalls B) where
         (behind p) q h
 
     drawn_own : (y : Symbol) → Within m n (port_of c p) → Within m (n + 1) (port_of (drawn M c p y) p)
-    drawn_own (symbol.Frame k) h = go (is_end c.links p)
-      where
-        go : (t : Bool)
-            → Within m (n + 1)
-            (port_of
-            (cond t (with_port c p (unsent (port_of c p))) (with_port c (behind p) (sent_on (port_of c (behind p))))) p)
-        go true =
-            own_change (Within m n) (Within m (n + 1)) unsent (λ s z. unsent_within m n s z)
-            (λ s z. later s (omega arith) (omega arith) z) c.ports p p h
-        go false =
-            later (port_of (with_port c (behind p) (sent_on (port_of c (behind p)))) p) (omega arith) (omega arith)
-            (freed_within p h)
+    drawn_own (symbol.Frame k) h =
+        cond_both (is_end c.links p) _ _ (λ (d : Chain B). Within m (n + 1) (port_of d p))
+        (λ e. own_change (Within m n) (Within m (n + 1)) unsent (λ s z. unsent_within m n s z)
+        (λ s z. later s (omega arith) (omega arith) z) c.ports p p h)
+        (λ e. later _ (omega arith) (omega arith) (freed_within p h))
     drawn_own symbol.RRdy h = later (port_of c p) (omega arith) (omega arith) h
     drawn_own (symbol.Mark y) h = later (port_of c p) (omega arith) (omega arith) h
 
     drawn_off : (y : Symbol) (q : ℕ) → q ≢ p → Within m n (port_of c q) → Within m n (port_of (drawn M c p y) q)
-    drawn_off (symbol.Frame k) q d h = go (is_end c.links p)
-      where
-        go : (t : Bool)
-            → Within m n
-            (port_of
-            (cond t (with_port c p (unsent (port_of c p))) (with_port c (behind p) (sent_on (port_of c (behind p))))) q)
-        go true = other_port (Within m n) c p q (unsent (port_of c p)) d h
-        go false = freed_within q h
+    drawn_off (symbol.Frame k) q d h =
+        cond_both (is_end c.links p) _ _ (λ (x : Chain B). Within m n (port_of x q))
+        (λ e. other_port (Within m n) c p q (unsent (port_of c p)) d h) (λ e. freed_within q h)
     drawn_off symbol.RRdy q d h = h
     drawn_off (symbol.Mark y) q d h = h
 
@@ -255,8 +233,8 @@ module _ {B : Type 0} (M : BankCalls B) where
 
   pub stepped_tick : (c : Chain B) → (stepped M c).state.tick ≡ c.tick + 1
   stepped_tick c =
-      each_tick (sends M) (sends_still M) (each_port (takes M) (2 * c.links) (ticked M c).state).state (2 * c.links)
-      ∙ each_tick (takes M) (takes_still M) (ticked M c).state (2 * c.links)
+      (each_still (sends M) (sends_still M) (each_port (takes M) (2 * c.links) (ticked M c).state).state
+      (2 * c.links)).tick ∙ (each_still (takes M) (takes_still M) (ticked M c).state (2 * c.links)).tick
 
   pub step_bounded : (c : Chain B) → c.tick < last_tick → Bounded c → Bounded (stepped M c).state
   step_bounded c early h = record {
@@ -269,8 +247,8 @@ module _ {B : Type 0} (M : BankCalls B) where
       taken = (each_port (takes M) (2 * c.links) (ticked M c).state).state
 
       links : (stepped M c).state.links ≡ c.links
-      links = each_links (sends M) (sends_links M) taken (2 * c.links)
-          ∙ each_links (takes M) (takes_links M) (ticked M c).state (2 * c.links)
+      links = (each_still (sends M) (sends_still M) taken (2 * c.links)).links
+          ∙ (each_still (takes M) (takes_still M) (ticked M c).state (2 * c.links)).links
 
       tick : (stepped M c).state.tick ≡ c.tick + 1
       tick = stepped_tick c

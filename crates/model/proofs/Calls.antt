@@ -9,6 +9,7 @@ use Rattle.eventlog.specs.declared.event.FrameKind.TheVariants.{Freed, Injected,
 use Rattle.bank.specs.Bank.{BankCalls, LawfulBank}
 use Rattle.port.specs.Port.{next_frame, freed_of, Port, Buffers, Turn, and_then, with_buffers, lent_out, injected_at}
 use Rattle.port.specs.Port.{among}
+use Rattle.port.proofs.Numbers.{fewer_without}
 use Rattle.symbol.specs.declared.end.End.{End}
 use Rattle.model.specs.Chain.{injected, Chain, facing, port_of, with_port, end_port, takes, sends, each_port, ticked}
 use Rattle.model.specs.Chain.{stepped, collects_by, released_at, on}
@@ -18,8 +19,7 @@ use Rattle.model.specs.OnePlace.{numbers, up_to}
 use Rattle.model.proofs.Accounts.{Account, noted_all, account}
 use Rattle.model.proofs.Banks.{bank_step}
 use Rattle.model.proofs.Cuts.{Cut}
-use Rattle.model.proofs.Lists.{fewer_without}
-use Rattle.model.proofs.Links.{takes_links, sends_links, each_links}
+use Rattle.model.proofs.Links.{Still, takes_still, sends_still, each_still}
 use Rattle.model.proofs.Loop.{Loop, receiver_frees}
 use Rattle.model.proofs.Records.{AllMeetRoom, At, account_off, rooms_kept}
 use Rattle.model.proofs.Places.{facing_back, facing_below, end_below, end_outer, Inner}
@@ -71,22 +71,22 @@ module _ {B : Type 0} (M : BankCalls B) (law : (b : B) → LawfulBank M b) where
       (g t.state (l ++ t.events) refl h)
 
   -- each port in turn
-  module _ (f : Chain B → ℕ → Turn (Chain B)) (same : (c : Chain B) (p : ℕ) → (f c p).state.links ≡ c.links)
+  module _ (f : Chain B → ℕ → Turn (Chain B)) (same : (c : Chain B) (p : ℕ) → Still c (f c p).state)
       (keeps : (c : Chain B) (l : Log) (p : ℕ) → p < 2 * c.links → Invariant M c l → Kept M l (f c p)) where
     each_kept : (c : Chain B) (l : Log) (k : ℕ) → k ≤ 2 * c.links → Invariant M c l → Kept M l (each_port f k c)
     each_kept c l zero z h = subst (Invariant M c) (sym (append-nil l)) h
     each_kept c l (suc k) z h =
         then_kept l (each_port f k c) (λ d. f d k) (each_kept c l k (omega (arith, z)) h)
-        (λ d j e i. keeps d j k (omega (arith, z, e, each_links f same c k)) i)
+        (λ d j e i. keeps d j k (omega (arith, z, e, (each_still f same c k).links)) i)
 
   -- a step
   pub step_kept : (c : Chain B) (l : Log) → Invariant M c l → Kept M l (stepped M c)
   step_kept c l h =
       then_kept l (and_then (ticked M c) (each_port (takes M) (2 * c.links))) (each_port (sends M) (2 * c.links))
       (then_kept l (ticked M c) (each_port (takes M) (2 * c.links)) (tick_kept c l h)
-      (λ d k e i. each_kept (takes M) (takes_links M) (takes_kept M law) d k (2 * c.links) (omega (arith, e)) i))
-      (λ d k e i. each_kept (sends M) (sends_links M) (sends_kept M law) d k (2 * c.links)
-      (omega (arith, e, each_links (takes M) (takes_links M) (ticked M c).state (2 * c.links))) i)
+      (λ d k e i. each_kept (takes M) (takes_still M) (takes_kept M law) d k (2 * c.links) (omega (arith, e)) i))
+      (λ d k e i. each_kept (sends M) (sends_still M) (sends_kept M law) d k (2 * c.links)
+      (omega (arith, e, (each_still (takes M) (takes_still M) (ticked M c).state (2 * c.links)).links)) i)
 
   -- A call at an end: an act of its port that leaves the bank. s is the port after it, es its records.
   module _ (c : Chain B) (l : Log) (e : End) (s : Port) (es : Log) (h : Invariant M c l) (some : 0 < c.links) where

@@ -6,10 +6,9 @@ use Rattle.model.specs.Stretches.{Fate, Arrived, UnderWay, more_good, Passage, l
 use Rattle.model.specs.Stretches.{nothing_put, paired, taken_symbols, lost_among}
 use Rattle.model.proofs.Accounts.{Account}
 
-pub cut-snoc : (k : Stream) (x : Stretches) (ts : List Passage) (t : Passage)
-    → cut k x (ts ++ (t ∷ [])) ≡ and_one (cut k x ts) (role k t.symbol) t.fate
-cut-snoc k x [] t = refl
-cut-snoc k x (u ∷ ts) t = cut-snoc k (and_one x (role k u.symbol) u.fate) ts t
+cut-append : (k : Stream) (x : Stretches) (ts us : List Passage) → cut k x (ts ++ us) ≡ cut k (cut k x ts) us
+cut-append k x [] us = refl
+cut-append k x (t ∷ ts) us = cut-append k (and_one x (role k t.symbol) t.fate) ts us
 
 pub last_good-snoc : (k : ℕ) (ts : List Passage) (t : Passage)
     → last_good k (ts ++ (t ∷ [])) ≡ ts ++ (record { symbol = t.symbol; fate = more_good k t.fate } ∷ [])
@@ -30,16 +29,12 @@ module _ (ts : List Passage) (x y : Stretches) (h : CutInto ts x y) (s : Symbol)
   pub cut_more : (f : Fate)
       → CutInto (ts ++ (record { symbol = s; fate = f } ∷ [])) (and_one x (role Frames s) f)
       (and_one y (role RRdys s) f)
-  cut_more f = record {
-    frames = cut-snoc Frames nothing_put ts (record {
-      symbol = s;
-      fate = f;
-    }) ∙ ap (λ (z : Stretches). and_one z (role Frames s) f) h.frames;
-    rrdys = cut-snoc RRdys nothing_put ts (record {
-      symbol = s;
-      fate = f;
-    }) ∙ ap (λ (z : Stretches). and_one z (role RRdys s) f) h.rrdys;
-  }
+  cut_more f =
+      let one : List Passage = record { symbol = s; fate = f } ∷ [] in
+      record {
+        frames = cut-append Frames nothing_put ts one ∙ ap (λ (z : Stretches). cut Frames z one) h.frames;
+        rrdys = cut-append RRdys nothing_put ts one ∙ ap (λ (z : Stretches). cut RRdys z one) h.rrdys;
+      }
 
   -- and a made good record follows
   pub cut_good : (k : ℕ)
@@ -65,10 +60,6 @@ paired_rest (s ∷ ss) = ap {B = List Passage} (λ z. record { symbol = s; fate 
 paired_taken : (ts : List Passage) (ss : List Symbol) → paired (taken_symbols ts ++ ss) ts ≡ ts ++ all_under_way ss
 paired_taken [] ss = paired_rest ss
 paired_taken (t ∷ ts) ss = ap {B = List Passage} (λ z. t ∷ z) (paired_taken ts ss)
-
-cut-append : (k : Stream) (x : Stretches) (ts us : List Passage) → cut k x (ts ++ us) ≡ cut k (cut k x ts) us
-cut-append k x [] us = refl
-cut-append k x (t ∷ ts) us = cut-append k (and_one x (role k t.symbol) t.fate) ts us
 
 -- what is under way ends no stretch and is not lost
 pub record SameLosses (x y : Stretches) : Type 0 where

@@ -2,13 +2,14 @@
 use Rattle.std.proofs.Common.{◌≡◌, ℕ, suc, ◌+◌, ◌-◌, ◌%◌, ◌^◌, ◌<◌, ◌≤◌, Bool, true, false, ◌&&◌, ◌||◌, eqb, ltb, List}
 use Rattle.std.proofs.Common.{[], ◌∷◌, ◌++◌, sym, refl, ap, ◌∙◌, subst, mod-lt, mod-eq_of_lt, arith, pow_pos}
 use native.Mathlib.Nat.{mod-le, mod-add-mod, add-mod-mod, add-mod_left, mod-add-div, zero-mod}
+use Rattle.std.proofs.lemmas.Bool.Decides.{nat_tests}
 use Rattle.std.proofs.lemmas.Bool.{and_parts, eqb-true}
 use Rattle.std.specs.List.{AllByRecursion}
 use Rattle.port.specs.Port.{Outflow, lost_of}
 use Rattle.model.specs.Figures.{Role, counted, mark, other, one_counted, counted_in}
-use Rattle.model.specs.Stretches.{Arrived, WasLost, lost_among, lost_in, good_among}
+use Rattle.model.specs.Stretches.{lost_among, lost_in, good_among}
 use Rattle.model.specs.WholeParts.{WholePart}
-use Rattle.model.proofs.Accounts.{Losses}
+use Rattle.model.proofs.Accounts.{Losses, with_got, with_lost, with_mark}
 
 -- the losses of the open stretch
 abbrev pub open_lost : Losses → ℕ
@@ -65,68 +66,44 @@ marks_mod m x y (r ∷ rs) e h = (
       (add_mod_eq m x y (one_counted r) e) h.1,
 )
 
--- the losses after one more counted got, one more lost, and a sound mark that makes k good
-abbrev pub with_got : Losses → Losses
-with_got x = record {
-  lost = x.lost;
-  good = x.good;
-  cut = record { ended = x.cut.ended; still_open = Arrived 0 ∷ x.cut.still_open };
-}
-
-abbrev pub with_lost : Losses → Losses
-with_lost x = record {
-  lost = x.lost + 1;
-  good = x.good;
-  cut = record { ended = x.cut.ended; still_open = WasLost ∷ x.cut.still_open };
-}
-
-abbrev pub with_mark : Losses → ℕ → ℕ → Losses
-with_mark x good k = record {
-  lost = x.lost;
-  good = good;
-  cut = record { ended = record { fates = x.cut.still_open; good = k } ∷ x.cut.ended; still_open = [] };
-}
-
 module _ (n : ℕ) (out : Outflow) (got : ℕ) (x : Losses) where
+  -- one more is put, which leaves the sender's count at o
+  put_more : (r : Role) (o : Outflow) (rs : List Role)
+      → (out.sent ≡ (got + open_lost x + counted_in rs) % 2 ^ n
+      → o.sent ≡ (got + open_lost x + (counted_in rs + one_counted r)) % 2 ^ n)
+      → (o.due ≡ true → o.sent ≡ 0)
+      → AtMark r (2 ^ n) (got + open_lost x + counted_in rs)
+      → InStep n out got rs x → InStep n o got (rs ++ (r ∷ [])) x
+  put_more r o rs sent due at h = record {
+    sent_is = sent h.sent_is ∙ ap (λ (z : ℕ). (got + open_lost x + z) % 2 ^ n) (sym (counted-snoc rs r));
+    due_is = due;
+    marks = marks-snoc _ _ rs r h.marks at;
+    below = h.below;
+    good = h.good;
+    ended = h.ended;
+  }
+
   pub put_counted : (rs : List Role) → out.due ≡ false → InStep n out got rs x
       → InStep n (record {
         sent = (out.sent + 1) % 2 ^ n;
         due = out.due || (eqb ((out.sent + 1) % 2 ^ n) 0 && ltb 0 n);
       }) got (rs ++ (counted ∷ [])) x
-  put_counted rs off h = record {
-    sent_is = ap (λ (z : ℕ). (z + 1) % 2 ^ n) h.sent_is ∙ mod-add-mod (got + open_lost x + counted_in rs) (2 ^ n) 1
-        ∙ ap (λ (z : ℕ). z % 2 ^ n) (omega (arith, counted-snoc rs counted));
-    due_is =
-        λ d. eqb-true _ _
-        (and_parts _ _ (subst (λ (t : Bool). (t || (eqb ((out.sent + 1) % 2 ^ n) 0 && ltb 0 n)) ≡ true) off d)).0;
-    marks = marks-snoc _ _ rs counted h.marks tt;
-    below = h.below;
-    good = h.good;
-    ended = h.ended;
-  }
+  put_counted rs off h =
+      put_more counted _ rs
+      (λ e. ap (λ (z : ℕ). (z + 1) % 2 ^ n) e ∙ mod-add-mod (got + open_lost x + counted_in rs) (2 ^ n) 1
+      ∙ ap (λ (z : ℕ). z % 2 ^ n) (omega arith))
+      (λ d. grind (arith, nat_tests)) tt h
 
   pub put_mark : (rs : List Role) → out.due ≡ true → InStep n out got rs x → InStep n (record {
     sent = out.sent;
     due = false;
   }) got (rs ++ (mark ∷ [])) x
-  put_mark rs d h = record {
-    sent_is = h.sent_is ∙ ap (λ (z : ℕ). z % 2 ^ n) (omega (arith, counted-snoc rs mark));
-    due_is = λ e. h.due_is d;
-    marks = marks-snoc _ _ rs mark h.marks (sym h.sent_is ∙ h.due_is d);
-    below = h.below;
-    good = h.good;
-    ended = h.ended;
-  }
+  put_mark rs d h =
+      put_more mark _ rs (λ e. e ∙ ap (λ (z : ℕ). z % 2 ^ n) (omega arith)) (λ e. h.due_is d)
+      (sym h.sent_is ∙ h.due_is d) h
 
   pub put_other : (rs : List Role) → InStep n out got rs x → InStep n out got (rs ++ (other ∷ [])) x
-  put_other rs h = record {
-    sent_is = h.sent_is ∙ ap (λ (z : ℕ). z % 2 ^ n) (omega (arith, counted-snoc rs other));
-    due_is = h.due_is;
-    marks = marks-snoc _ _ rs other h.marks tt;
-    below = h.below;
-    good = h.good;
-    ended = h.ended;
-  }
+  put_other rs h = put_more other _ rs (λ e. e ∙ ap (λ (z : ℕ). z % 2 ^ n) (omega arith)) h.due_is tt h
 
   -- what is not counted is taken
   take_uncounted : (r : Role) (rs : List Role) → one_counted r ≡ 0 → InStep n out got (r ∷ rs) x → InStep n out got rs x

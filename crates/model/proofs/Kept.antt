@@ -6,6 +6,7 @@ use Rattle.std.proofs.Common.{get_or-set_same, set-set}
 use mathlib.Core.Path.{transport}
 use lib.Seq.{set-get_or, set_comm}
 use Rattle.std.proofs.lemmas.Bool.{cond-false, eqb-true, eqb-false, eq-eqb, ne_eqb, cases_eq, ltb-true, or_cases}
+use Rattle.std.proofs.lemmas.Bool.Decides.{nat_tests}
 use Rattle.std.proofs.lemmas.Bool.{or_parts}
 use Rattle.ring.specs.Queue.{head?, tail}
 use Rattle.symbol.specs.declared.Frame.{Frame}
@@ -31,7 +32,7 @@ use Rattle.model.specs.Stretches.{Arrived, WasLost, cut, nothing_put}
 use Rattle.model.specs.OnePlace.{numbers, up_to}
 use Rattle.model.proofs.Accounts.{Account, noted, noted_all, account}
 use Rattle.model.proofs.Banks.{bank_put, bank_put_off, bank_take, bank_take_off, bank_take_none, bank_ready}
-use Rattle.model.proofs.Told.{frames-append}
+use Rattle.model.proofs.Told.{frames-append, frames_same}
 use Rattle.model.proofs.Cuts.{Cut, cut_more, cut_good}
 use Rattle.model.proofs.Lists.{first_is}
 use Rattle.model.proofs.Loop.{taken_events, Sender, Receiver, LoopOf, Loop, sender_takes, receiver_takes, HasRoom}
@@ -417,29 +418,14 @@ module _ {B : Type 0} (M : BankCalls B) (law : (b : B) → LawfulBank M b) where
         here (tt, tt)
 
   -- a port puts what is no frame
-  quiet_put : (x : ℕ) (s s' : Port) (a : Account) (y : Symbol)
-      → shelf_by s' (noted a (event.Item Put x y)) (frames_among a.puts) ≡ shelf s a
-      → frames_among (y ∷ []) ≡ []
-      → (Cut a → Cut (noted a (event.Item Put x y)))
-      → Quiet s s' a (noted a (event.Item Put x y))
-  quiet_put x s s' a y e none cuts =
-      unmoved _ _ _ _
-      (ap (shelf_by s' (noted a (event.Item Put x y)))
-      (frames-append a.puts (y ∷ []) ∙ ap {B = List Frame} (λ z. frames_among a.puts ++ z) none
-      ∙ append-nil (frames_among a.puts))
-      ∙ e) cuts
-
-  quiet_rrdy : (x : ℕ) (s : Port) (a : Account)
-      → Quiet s (has_sent s symbol.RRdy) a (noted a (event.Item Put x symbol.RRdy))
-  quiet_rrdy x s a = quiet_put x s _ a symbol.RRdy refl refl (λ z. z)
-
-  quiet_bbscs : (x : ℕ) (s : Port) (a : Account)
-      → Quiet s (has_sent s (symbol.Mark BbScS)) a (noted a (event.Item Put x (symbol.Mark BbScS)))
-  quiet_bbscs x s a = quiet_put x s _ a (symbol.Mark BbScS) refl refl (λ z. z)
-
-  quiet_bbscr : (x : ℕ) (s : Port) (a : Account)
-      → Quiet s (has_sent s (symbol.Mark BbScR)) a (noted a (event.Item Put x (symbol.Mark BbScR)))
-  quiet_bbscr x s a = quiet_put x s _ a (symbol.Mark BbScR) refl refl (λ z. z)
+  quiet_put : (x : ℕ) (s : Port) (a : Account) (y : Symbol) → frames_among (y ∷ []) ≡ []
+      → Quiet s (has_sent s y) a (noted a (event.Item Put x y))
+  quiet_put x s a (symbol.Frame k) none = absurd cc
+  quiet_put x s a symbol.RRdy none = unmoved _ _ _ _ (ap (shelf_by s a) (frames_same a.puts symbol.RRdy none)) (λ z. z)
+  quiet_put x s a (symbol.Mark BbScS) none =
+      unmoved _ _ _ _ (ap (shelf_by s a) (frames_same a.puts (symbol.Mark BbScS) none)) (λ z. z)
+  quiet_put x s a (symbol.Mark BbScR) none =
+      unmoved _ _ _ _ (ap (shelf_by s a) (frames_same a.puts (symbol.Mark BbScR) none)) (λ z. z)
 
   -- an end puts the oldest frame of its outbox
   end_act : (x : ℕ) (inner : Type 0) (s : Port) (a : Account) (k : Frame) (ks : List Frame) → (inner → ⊥)
@@ -643,11 +629,7 @@ module _ {B : Type 0} (M : BankCalls B) (law : (b : B) → LawfulBank M b) where
     }
 
   outer : (c : Chain B) (x : ℕ) → is_end c.links x ≡ true → Inner c x → ⊥
-  outer c x e i = go (or_cases (eqb x 0) (eqb x (2 * c.links - 1)) e)
-    where
-      go : (eqb x 0 ≡ true) ⊎ (eqb x (2 * c.links - 1) ≡ true) → ⊥
-      go (inl q) = i.0 (eqb-true x 0 q)
-      go (inr q) = i.1 (eqb-true x (2 * c.links - 1) q)
+  outer c x e i = grind (arith, nat_tests)
 
   module _ (c : Chain B) (l : Log) (x : ℕ) (h : Invariant M c l) (lt : x < 2 * c.links)
       (space : (M.known c.bank x).space ≡ true) where
@@ -659,14 +641,13 @@ module _ {B : Type 0} (M : BankCalls B) (law : (b : B) → LawfulBank M b) where
         (account x l)
     x_takes = h.loops (facing x) x (facing_below c.links x (facing x) refl lt) (facing_back x (facing x) refl)
 
-    quiet_kept : (y : Symbol) → MayPut (port_of c x) y
-        → Quiet (port_of c x) (has_sent (port_of c x) y) (account x l) (noted (account x l) (event.Item Put x y))
+    quiet_kept : (y : Symbol) → MayPut (port_of c x) y → frames_among (y ∷ []) ≡ []
         → Invariant M (with_port (with_bank c (M.put c.bank x (sound y))) x (has_sent (port_of c x) y))
         (l ++ (event.Item Put x y ∷ []))
-    quiet_kept y may q =
+    quiet_kept y may none =
         put_kept c l x (facing x) (port_of c x) y h lt refl space may x_sends x_takes
         (quiet_act (Inner c x) (port_of c x) (has_sent (port_of c x) y) (account x l)
-        (noted (account x l) (event.Item Put x y)) q)
+        (noted (account x l) (event.Item Put x y)) (quiet_put x (port_of c x) (account x l) y none))
 
     -- the chain after the port itself and the bank have it
     abbrev put_at : Symbol → Chain B
@@ -749,12 +730,11 @@ module _ {B : Type 0} (M : BankCalls B) (law : (b : B) → LawfulBank M b) where
           (cond d₂ (Some (symbol.Mark BbScR)) (cond o (Some symbol.RRdy) (cond u (frame_of src) None)))) None))
       go false d₁ d₂ o u src e₀ e₁ e₂ e₃ e₄ e₅ = idle_kept c l x h
       go true true d₂ o u src e₀ e₁ e₂ e₃ e₄ e₅ =
-          quiet_kept c l x h lt e₀ (symbol.Mark BbScS) e₁ (quiet_bbscs x (port_of c x) (account x l))
+          quiet_kept c l x h lt e₀ (symbol.Mark BbScS) e₁ refl
       go true false true o u src e₀ e₁ e₂ e₃ e₄ e₅ =
-          quiet_kept c l x h lt e₀ (symbol.Mark BbScR) e₂ (quiet_bbscr x (port_of c x) (account x l))
+          quiet_kept c l x h lt e₀ (symbol.Mark BbScR) e₂ refl
       go true false false true u src e₀ e₁ e₂ e₃ e₄ e₅ =
-          quiet_kept c l x h lt e₀ symbol.RRdy (ltb-true 0 (port_of c x).buffers.owed e₃, e₂)
-          (quiet_rrdy x (port_of c x) (account x l))
+          quiet_kept c l x h lt e₀ symbol.RRdy (ltb-true 0 (port_of c x).buffers.owed e₃, e₂) refl
       go true false false false true None e₀ e₁ e₂ e₃ e₄ e₅ = idle_kept c l x h
       go true false false false true (Some k) e₀ e₁ e₂ e₃ e₄ e₅ =
           frame_kept c l x h lt e₀ k (is_end c.links x)

@@ -1,5 +1,5 @@
 -- The laws of every run.
-use Rattle.std.proofs.Common.{◌≡◌, ℕ, zero, suc, ◌+◌, ◌*◌, ◌^◌, ◌<◌, min, List, [], ◌∷◌, ◌++◌, length, sym, refl, ap}
+use Rattle.std.proofs.Common.{◌≡◌, ℕ, zero, suc, ◌+◌, ◌*◌, ◌^◌, ◌<◌, List, [], ◌∷◌, ◌++◌, length, sym, refl, ap}
 use Rattle.std.proofs.Common.{◌∙◌, subst, append-nil, mod-lt, arith, length-append, pow_pos}
 use Rattle.std.specs.List.{AllByRecursion}
 use Rattle.symbol.specs.declared.Frame.{Frame}
@@ -34,13 +34,6 @@ use Rattle.model.proofs.Bounds.{Bounded}
 use Rattle.model.proofs.Runs.{run_invariant, run_bounded, run_ticks}
 use Rattle.model.proofs.ReadBack.{run_fine}
 use Rattle.model.proofs.Ways.{times_often, up_to_in, up_to_out, how_often, places_are, collected_in_order, hop_below}
-
--- a figure that has not come to the largest is exact
-exact : {x y : ℕ} → y ≡ min x 4294967295 → x < 4294967295 → x ≡ y
-exact e z = omega (arith, e)
-
-exact_small : {x y : ℕ} → y ≡ min x 4294967295 → y < 4294967295 → x ≡ y
-exact_small e z = omega (arith, e)
 
 -- as many numbers as frames
 length-numbers : (fs : List Frame) → length (numbers fs) ≡ length fs
@@ -122,67 +115,67 @@ module _ {B : Type 0} (M : BankCalls B) (law : (b : B) → LawfulBank M b) where
         ∙ ap {B = List Symbol} (λ z. z ++ on M c p) (told (facing p) l).taken_are
 
     -- the whole parts of the account are those of the stretches of the puts
-    wholes : (p : ℕ) (k : Stream) (x : Losses) → Wholes (port_of c p).n x → x.lost ≡ reported_lost k (facing p) l
-        → x.good ≡ made_good k (facing p) l
-        → SameLosses x.cut (stretches k p l) → InParts (port_of c p).n k p l
-    wholes p k x w lost good same = record {
-      each = subst (AllByRecursion (WholePart (port_of c p).n)) (sym same.ended) w.each;
-      all_lost = sym lost ∙ w.all_lost ∙ (λ i. sym same.lost i + lost_in (sym same.ended i));
-      all_good = sym good ∙ w.all_good ∙ ap good_among (sym same.ended);
-    }
+    wholes : (p : ℕ) (k : Stream) (x : Losses) → p < 2 * c.links → Wholes (port_of c p).n x
+        → x.lost ≡ reported_lost k (facing p) l → x.good ≡ made_good k (facing p) l
+        → cut k nothing_put (account (facing p) l).takes ≡ x.cut → InParts (port_of c p).n k p l
+    wholes p k x lt w lost good cuts =
+        let same =
+        put_stretches k (puts p l) (taken (facing p) l) (on M c p) x.cut (in_turn p lt)
+        (ap (cut k nothing_put) (sym (told (facing p) l).takes_are) ∙ cuts) in
+        record {
+          each = subst (AllByRecursion (WholePart (port_of c p).n)) (sym same.ended) w.each;
+          all_lost = sym lost ∙ w.all_lost ∙ (λ i. sym same.lost i + lost_in (sym same.ended i));
+          all_good = sym good ∙ w.all_good ∙ ap good_among (sym same.ended);
+        }
 
     parts : (p : ℕ) (k : Stream) → p < 2 * c.links → InParts (port_of c p).n k p l
     parts p Frames lt =
         let q = told (facing p) l in
-        wholes p Frames (account (facing p) l).frames.losses (sends_in p lt).frames.ended q.frames_lost
-        q.frames_good
-        (put_stretches Frames (puts p l) (taken (facing p) l) (on M c p) (account (facing p) l).frames.losses.cut
-        (in_turn p lt)
-        (ap (cut Frames nothing_put) (sym q.takes_are)
-        ∙ (h.cuts (facing p) (facing_below c.links p (facing p) refl lt)).frames))
+        wholes p Frames (account (facing p) l).frames.losses lt (sends_in p lt).frames.ended q.frames_lost
+        q.frames_good (h.cuts (facing p) (facing_below c.links p (facing p) refl lt)).frames
     parts p RRdys lt =
         let q = told (facing p) l in
-        wholes p RRdys (account (facing p) l).rrdys.losses
+        wholes p RRdys (account (facing p) l).rrdys.losses lt
         (subst (λ (n : ℕ). Wholes n (account (facing p) l).rrdys.losses) (takes_in p lt).figures.same_n
         (takes_in p lt).rrdys.ended) q.rrdys_lost q.rrdys_good
-        (put_stretches RRdys (puts p l) (taken (facing p) l) (on M c p) (account (facing p) l).rrdys.losses.cut
-        (in_turn p lt)
-        (ap (cut RRdys nothing_put) (sym q.takes_are)
-        ∙ (h.cuts (facing p) (facing_below c.links p (facing p) refl lt)).rrdys))
+        (h.cuts (facing p) (facing_below c.links p (facing p) refl lt)).rrdys
 
     port_told : (p : ℕ) → p < 2 * c.links → PortTold c l p
     port_told p lt = let t = told p l in record {
       held_is = omega (arith, (takes_in p lt).figures.held_is, t.frames_got, t.freed_is);
       owed_is = omega (arith, (takes_in p lt).figures.owed_is, t.freed_is, t.frames_good, t.rrdys_put);
       used_is = omega (arith, (sends_in p lt).figures.used_is, t.frames_put, t.rrdys_got, t.rrdys_good);
-      frames_lost = sym frames_lost ∙ t.frames_lost;
+      frames_lost = omega (arith, frames_lost, t.frames_lost);
       frames_good =
-          sym
-          (exact (takes_in p lt).figures.frames_good
-          (omega (
+          omega (
             arith,
+            (takes_in p lt).figures.frames_good,
             (takes_in p lt).frames.good,
             frames_lost,
-            (few.ports p).frames_lost,
+            few.ports p,
             few.tick,
-          ))) ∙ t.frames_good;
-      rrdys_lost = sym rrdys_lost ∙ t.rrdys_lost;
+            t.frames_good,
+          );
+      rrdys_lost = omega (arith, rrdys_lost, t.rrdys_lost);
       rrdys_good =
-          sym
-          (exact (sends_in p lt).figures.rrdys_good
-          (omega
-          (arith, (sends_in p lt).rrdys.good, rrdys_lost, (few.ports p).rrdys_lost, few.tick))) ∙ t.rrdys_good;
-      handed_is = sym (exact_small (h.stocked p lt).1 (omega (arith, (few.ports p).handed, few.tick)))
-          ∙ ap length t.collected_are;
+          omega (
+            arith,
+            (sends_in p lt).figures.rrdys_good,
+            (sends_in p lt).rrdys.good,
+            rrdys_lost,
+            few.ports p,
+            few.tick,
+            t.rrdys_good,
+          );
+      handed_is = omega (arith, (h.stocked p lt).1, few.ports p, few.tick, ap length t.collected_are);
     }
       where
+        -- a figure that has not come to the largest is exact
         frames_lost : (account p l).frames.losses.lost ≡ (port_of c p).frames_in.lost
-        frames_lost =
-            exact_small (takes_in p lt).figures.frames_lost (omega (arith, (few.ports p).frames_lost, few.tick))
+        frames_lost = omega (arith, (takes_in p lt).figures.frames_lost, few.ports p, few.tick)
 
         rrdys_lost : (account p l).rrdys.losses.lost ≡ (port_of c p).rrdys_in.lost
-        rrdys_lost =
-            exact_small (sends_in p lt).figures.rrdys_lost (omega (arith, (few.ports p).rrdys_lost, few.tick))
+        rrdys_lost = omega (arith, (sends_in p lt).figures.rrdys_lost, few.ports p, few.tick)
 
     injected_is : (e : End) → 0 < c.links → (port_at_end c e).outbox.injected ≡ length (injected (end_port c e) l)
     injected_is e some =

@@ -1,7 +1,7 @@
 -- No act of a port changes the links or the tick.
-use Rattle.std.proofs.Common.{◌≡◌, ℕ, zero, suc, Bool, true, false, cond, Some, None, Option, refl, ◌∙◌}
+use Rattle.std.proofs.Common.{◌≡◌, ℕ, zero, suc, Some, None, Option, refl, ◌∙◌}
+use Rattle.std.proofs.lemmas.Bool.{cond_both}
 use Rattle.symbol.specs.declared.Item.{Item}
-use Rattle.symbol.specs.declared.Mark.TheVariants.{BbScS, BbScR}
 use Rattle.symbol.specs.declared.Symbol.{Symbol}
 use Rattle.symbol.specs.declared.Symbol.TheVariants as symbol
 use Rattle.channel.specs.Calls.{handed}
@@ -24,18 +24,12 @@ module _ {B : Type 0} (M : BankCalls B) where
       let h = by_item (with_bank c (M.take c.bank (facing p))) p (handed (M.known c.bank (facing p))) in
       record { links = h.links; tick = h.tick }
 
-  either : (b : Bool) (c x y : Chain B) → Still c x → Still c y → Still c (cond b x y)
-  either true c x y e f = e
-  either false c x y e f = f
-
   drawn_still : (c : Chain B) (p : ℕ) (s : Symbol) → Still c (drawn M c p s)
-  drawn_still c p (symbol.Frame k) = either (is_end c.links p) c _ _ (record {
-    links = refl;
-    tick = refl;
-  }) (record { links = refl; tick = refl })
+  drawn_still c p (symbol.Frame k) =
+      cond_both (is_end c.links p) _ _ (Still c) (λ e. record { links = refl; tick = refl })
+      (λ e. record { links = refl; tick = refl })
   drawn_still c p symbol.RRdy = record { links = refl; tick = refl }
-  drawn_still c p (symbol.Mark BbScS) = record { links = refl; tick = refl }
-  drawn_still c p (symbol.Mark BbScR) = record { links = refl; tick = refl }
+  drawn_still c p (symbol.Mark m) = record { links = refl; tick = refl }
 
   by_symbol : (c : Chain B) (p : ℕ) (o : Option Symbol) → Still c (sends_symbol M c p o).state
   by_symbol c p None = record { links = refl; tick = refl }
@@ -48,19 +42,10 @@ module _ {B : Type 0} (M : BankCalls B) where
   sends_still c p = let h = by_symbol (with_port c p (after_send (port_of c p) (sent M c p))) p (sent M c p) in
       record { links = h.links; tick = h.tick }
 
-  pub takes_links : (c : Chain B) (p : ℕ) → (takes M c p).state.links ≡ c.links
-  takes_links c p = (takes_still c p).links
-
-  pub sends_links : (c : Chain B) (p : ℕ) → (sends M c p).state.links ≡ c.links
-  sends_links c p = (sends_still c p).links
-
-module _ {B : Type 0} (f : Chain B → ℕ → Turn (Chain B)) where
-  pub each_links : ((c : Chain B) (p : ℕ) → (f c p).state.links ≡ c.links) → (c : Chain B) (k : ℕ)
-      → (each_port f k c).state.links ≡ c.links
-  each_links keeps c zero = refl
-  each_links keeps c (suc k) = keeps (each_port f k c).state k ∙ each_links keeps c k
-
-  pub each_tick : ((c : Chain B) (p : ℕ) → Still c (f c p).state) → (c : Chain B) (k : ℕ)
-      → (each_port f k c).state.tick ≡ c.tick
-  each_tick keeps c zero = refl
-  each_tick keeps c (suc k) = (keeps (each_port f k c).state k).tick ∙ each_tick keeps c k
+pub each_still : {B : Type 0} (f : Chain B → ℕ → Turn (Chain B)) → ((c : Chain B) (p : ℕ) → Still c (f c p).state)
+    → (c : Chain B) (k : ℕ) → Still c (each_port f k c).state
+each_still f keeps c zero = record { links = refl; tick = refl }
+each_still f keeps c (suc k) =
+    let now = keeps (each_port f k c).state k in
+    let before = each_still f keeps c k in
+    record { links = now.links ∙ before.links; tick = now.tick ∙ before.tick }

@@ -1,6 +1,6 @@
 -- One loop of credit: the port that sends frames, the port that takes them and sends R_RDYs, and what is under way
 -- between them.
-use Rattle.std.proofs.Common.{◌≡◌, ℕ, ◌+◌, ◌-◌, ◌%◌, ◌^◌, ◌<◌, ◌≤◌, min, Bool, true, false, cond, ◌&&◌, ◌||◌, eqb, ltb}
+use Rattle.std.proofs.Common.{◌≡◌, ℕ, ◌+◌, ◌%◌, ◌^◌, ◌<◌, ◌≤◌, min, Bool, true, false, cond, ◌&&◌, ◌||◌, eqb, ltb}
 use Rattle.std.proofs.Common.{List, [], ◌∷◌, ◌++◌, sym, refl, ap, ◌∙◌, subst, append_assoc, add-zero, zero-add, arith}
 use native.Mathlib.Nat.{mod-le}
 use Rattle.std.proofs.lemmas.Bool.{cond-false, eqb-true, ne_eqb}
@@ -20,9 +20,9 @@ use Rattle.model.specs.Run.{Log}
 use Rattle.model.specs.Figures.{Stream, Frames, RRdys, Role, counted, role, roles, counted_in, one_counted, how_many}
 use Rattle.model.specs.Stretches.{Passage, Arrived, last_good}
 use Rattle.model.proofs.Accounts.{Losses, Tally, Account, noted, noted_all, with_tallies, with_taken, buffers_in_use}
-use Rattle.model.proofs.Accounts.{credit_used}
+use Rattle.model.proofs.Accounts.{credit_used, with_got, with_mark}
 use Rattle.model.proofs.Cuts.{last_good-snoc}
-use Rattle.model.proofs.InStep.{InStep, open_lost, with_got, with_mark, found, counted-snoc, put_counted, put_mark}
+use Rattle.model.proofs.InStep.{InStep, open_lost, found, counted-snoc, put_counted, put_mark}
 use Rattle.model.proofs.InStep.{put_other, take_other, lose_mark, lose_counted, get_counted, get_mark}
 
 -- what port p, at place `at`, logs of an item that it takes
@@ -126,6 +126,11 @@ pub roles-snoc : (k : Stream) (xs : List Symbol) (y : Symbol) → roles k (xs ++
 roles-snoc k [] y = refl
 roles-snoc k (x ∷ xs) y = ap {B = List Role} (λ r. role k x ∷ r) (roles-snoc k xs y)
 
+-- one more put goes last
+put_on : (k : Stream) (xs : List Symbol) (y : Symbol) {n g : ℕ} {o : Outflow} {x : Losses}
+    → InStep n o g (roles k xs ++ (role k y ∷ [])) x → InStep n o g (roles k (xs ++ (y ∷ []))) x
+put_on k xs y {n} {g} {o} {x} h = subst (λ (z : List Role). InStep n o g z x) (sym (roles-snoc k xs y)) h
+
 how_many-snoc : (k : Stream) (xs : List Symbol) (y : Symbol)
     → how_many k (xs ++ (y ∷ [])) ≡ how_many k xs + one_counted (role k y)
 how_many-snoc k xs y = ap counted_in (roles-snoc k xs y) ∙ counted-snoc (roles k xs) (role k y)
@@ -177,6 +182,10 @@ rrdys_account at a k false e = some_good (rrdys_marked a) a (symbol.Mark BbScR) 
 abbrev one_more : Outflow → ℕ → Outflow
 one_more o n = record { sent = (o.sent + 1) % 2 ^ n; due = o.due || (eqb ((o.sent + 1) % 2 ^ n) 0 && ltb 0 n) }
 
+-- what is found lost, when that is what was lost modulo m and there is room for all that was lost
+all_found : (l m x room : ℕ) → x ≡ l % m → l ≤ room → min x room ≡ x
+all_found l m x room e h = omega (arith, mod-le l m)
+
 -- when a port may put a symbol
 abbrev pub MayPut : Port → Symbol → Type 0
 MayPut p (symbol.Frame k) = (p.credit.used < p.credit.limit) × (p.frames_out.due ≡ false)
@@ -220,13 +229,7 @@ module _ (at : ℕ) (s r : Port) (fwd back : List Symbol) (a b : Account) where
 
   -- R_RDYs found lost: as many as were, and never more than the credit in use
   rrdys_found_is : Loop s r fwd (symbol.Mark BbScR ∷ back) a b → rrdys_found s ≡ lost_of s.n s.rrdys_in.got
-  rrdys_found_is h =
-      least (lost_of s.n s.rrdys_in.got) (found _ _ _ _ _ h.rrdys)
-      (mod-le (open_lost a.rrdys.losses) (2 ^ s.n))
-    where
-      least : (x : ℕ) → x ≡ open_lost a.rrdys.losses % 2 ^ s.n
-          → open_lost a.rrdys.losses % 2 ^ s.n ≤ open_lost a.rrdys.losses → min x s.credit.used ≡ x
-      least x e m = omega (arith, h)
+  rrdys_found_is h = all_found _ (2 ^ s.n) _ _ (found _ _ _ _ _ h.rrdys) (omega (arith, h))
 
   sender_marked : (k : ℕ) → k ≡ lost_of s.n s.rrdys_in.got → k ≤ open_lost a.rrdys.losses
       → Loop s r fwd (symbol.Mark BbScR ∷ back) a b
@@ -243,27 +246,12 @@ module _ (at : ℕ) (s r : Port) (fwd back : List Symbol) (a b : Account) where
 
   pub sender_gets : (y : Symbol) → Loop s r fwd (y ∷ back) a b
       → Loop (arrived s y) r fwd back (noted_all a (taken_events at s Sound y)) b
-  sender_gets (symbol.Frame k) h = sender_holds k (is_full s.buffers) (record {
-    figures = omega (arith, h);
-    frames = h.frames;
-    rrdys = take_other _ _ _ _ _ h.rrdys;
-    order = h.order;
-  })
+  sender_gets (symbol.Frame k) h = sender_holds k (is_full s.buffers) (loop_by (omega (arith, h)) h.frames (take_other _ _ _ _ _ h.rrdys) h.order)
   sender_gets symbol.RRdy h =
       subst (λ (z : Port). Loop z r fwd back (noted a (event.Item Got at symbol.RRdy)) b)
       (sym (cond-false _ s (credit_back s) (ne_eqb _ _ (λ e. omega (arith, h)))))
-      (record {
-        figures = omega (arith, h);
-        frames = h.frames;
-        rrdys = get_counted _ _ _ _ _ h.rrdys;
-        order = h.order;
-      })
-  sender_gets (symbol.Mark BbScS) h = sender_corrects (frames_found s) (eqb (frames_found s) 0) (record {
-    figures = omega (arith, h);
-    frames = h.frames;
-    rrdys = take_other _ _ _ _ _ h.rrdys;
-    order = h.order;
-  })
+      (loop_by (omega (arith, h)) h.frames (get_counted _ _ _ _ _ h.rrdys) h.order)
+  sender_gets (symbol.Mark BbScS) h = sender_corrects (frames_found s) (eqb (frames_found s) 0) (loop_by (omega (arith, h)) h.frames (take_other _ _ _ _ _ h.rrdys) h.order)
   sender_gets (symbol.Mark BbScR) h =
       subst (λ (z : Account). Loop (rrdys_corrected s) r fwd back z b)
       (sym (rrdys_account at a (rrdys_found s) (eqb (rrdys_found s) 0) refl))
@@ -284,15 +272,9 @@ module _ (at : ℕ) (s r : Port) (fwd back : List Symbol) (a b : Account) where
   -- frames found lost: as many as were, and never more than the free buffers
   frames_found_is : Loop s r (symbol.Mark BbScS ∷ fwd) back a b → frames_found r ≡ lost_of s.n r.frames_in.got
   frames_found_is h =
-      least (lost_of r.n r.frames_in.got)
-      (ap (λ (x : ℕ). lost_of x r.frames_in.got) (sym h.figures.same_n) ∙ found _ _ _ _ _ h.frames)
-      (mod-le (open_lost b.frames.losses) (2 ^ s.n))
+      all_found _ (2 ^ s.n) _ _
+      (ap (λ (x : ℕ). lost_of x r.frames_in.got) (sym h.figures.same_n) ∙ found _ _ _ _ _ h.frames) (omega (arith, h))
       ∙ ap (λ (x : ℕ). lost_of x r.frames_in.got) (sym h.figures.same_n)
-    where
-      least : (x : ℕ) → x ≡ open_lost b.frames.losses % 2 ^ s.n
-          → open_lost b.frames.losses % 2 ^ s.n ≤ open_lost b.frames.losses
-          → min x (r.buffers.all - (r.buffers.held + r.buffers.owed)) ≡ x
-      least x e m = omega (arith, h)
 
   receiver_marked : (k : ℕ) → k ≡ lost_of s.n r.frames_in.got → k ≤ open_lost b.frames.losses
       → Loop s r (symbol.Mark BbScS ∷ fwd) back a b
@@ -312,33 +294,19 @@ module _ (at : ℕ) (s r : Port) (fwd back : List Symbol) (a b : Account) where
   receiver_gets (symbol.Frame k) h =
       subst (λ (z : Port). Loop s z fwd back a (noted b (event.Item Got at (symbol.Frame k))))
       (sym (cond-false _ r (frame_held r k) (ne_eqb _ _ (λ e. omega (arith, h)))))
-      (record {
-        figures = omega (arith, h);
-        frames =
-            subst
-            (λ (x : ℕ). InStep s.n s.frames_out ((r.frames_in.got + 1) % 2 ^ x) (roles Frames fwd)
-            (with_got b.frames.losses)) h.figures.same_n (get_counted _ _ _ _ _ h.frames);
-        rrdys = h.rrdys;
-        order = taken_next _ _ _ _ h.order;
-      })
-  receiver_gets symbol.RRdy h = receiver_credits (eqb r.credit.used 0) (record {
-    figures = omega (arith, h);
-    frames = take_other _ _ _ _ _ h.frames;
-    rrdys = h.rrdys;
-    order = taken_next _ _ _ _ h.order;
-  })
+      (loop_by (omega (arith, h))
+      (subst
+      (λ (x : ℕ). InStep s.n s.frames_out ((r.frames_in.got + 1) % 2 ^ x) (roles Frames fwd) (with_got b.frames.losses))
+      h.figures.same_n (get_counted _ _ _ _ _ h.frames))
+      h.rrdys (taken_next _ _ _ _ h.order))
+  receiver_gets symbol.RRdy h = receiver_credits (eqb r.credit.used 0) (loop_by (omega (arith, h)) (take_other _ _ _ _ _ h.frames) h.rrdys (taken_next _ _ _ _ h.order))
   receiver_gets (symbol.Mark BbScS) h =
       subst (λ (z : Account). Loop s (frames_corrected r) fwd back a z)
       (sym (frames_account at b (frames_found r) (eqb (frames_found r) 0) refl))
       (receiver_marked (frames_found r) (frames_found_is h)
       (omega
       (arith, frames_found_is h, found _ _ _ _ _ h.frames, mod-le (open_lost b.frames.losses) (2 ^ s.n))) h)
-  receiver_gets (symbol.Mark BbScR) h = receiver_corrects (rrdys_found r) (eqb (rrdys_found r) 0) (record {
-    figures = omega (arith, h);
-    frames = take_other _ _ _ _ _ h.frames;
-    rrdys = h.rrdys;
-    order = taken_next _ _ _ _ h.order;
-  })
+  receiver_gets (symbol.Mark BbScR) h = receiver_corrects (rrdys_found r) (eqb (rrdys_found r) 0) (loop_by (omega (arith, h)) (take_other _ _ _ _ _ h.frames) h.rrdys (taken_next _ _ _ _ h.order))
 
   -- an item taken, sound or lost
   pub sender_takes : (v : Note) (y : Symbol) → Loop s r fwd (y ∷ back) a b
@@ -352,48 +320,34 @@ module _ (at : ℕ) (s r : Port) (fwd back : List Symbol) (a b : Account) where
   receiver_takes Lost y h = receiver_misses y h
 
   -- a symbol put
-  put_on : (y : Symbol) {o : Outflow}
-      → InStep s.n o r.frames_in.got (roles Frames fwd ++ (role Frames y ∷ [])) b.frames.losses
-      → InStep s.n o r.frames_in.got (roles Frames (fwd ++ (y ∷ []))) b.frames.losses
-  put_on y {o} h =
-      subst (λ (z : List Role). InStep s.n o r.frames_in.got z b.frames.losses)
-      (sym (roles-snoc Frames fwd y)) h
-
   pub sender_puts : (y : Symbol) → MayPut s y → Loop s r fwd back a b
       → Loop (has_sent s y) r (fwd ++ (y ∷ [])) back (noted a (event.Item Put at y)) b
   sender_puts (symbol.Frame k) m h =
       loop_by (omega (arith, h, m, how_many-snoc Frames fwd (symbol.Frame k)))
-      (put_on (symbol.Frame k) (put_counted _ _ _ _ _ m.1 h.frames)) h.rrdys
+      (put_on Frames fwd (symbol.Frame k) (put_counted _ _ _ _ _ m.1 h.frames)) h.rrdys
       (puts_next b.taken fwd _ _ h.order)
   sender_puts symbol.RRdy m h =
       loop_by (omega (arith, h, how_many-snoc Frames fwd symbol.RRdy))
-      (put_on symbol.RRdy (put_other _ _ _ _ _ h.frames)) h.rrdys (puts_next b.taken fwd _ _ h.order)
+      (put_on Frames fwd symbol.RRdy (put_other _ _ _ _ _ h.frames)) h.rrdys (puts_next b.taken fwd _ _ h.order)
   sender_puts (symbol.Mark BbScS) m h =
       loop_by (omega (arith, h, how_many-snoc Frames fwd (symbol.Mark BbScS)))
-      (put_on (symbol.Mark BbScS) (put_mark _ _ _ _ _ m h.frames)) h.rrdys
+      (put_on Frames fwd (symbol.Mark BbScS) (put_mark _ _ _ _ _ m h.frames)) h.rrdys
       (puts_next b.taken fwd _ _ h.order)
   sender_puts (symbol.Mark BbScR) m h =
       loop_by (omega (arith, h, how_many-snoc Frames fwd (symbol.Mark BbScR)))
-      (put_on (symbol.Mark BbScR) (put_other _ _ _ _ _ h.frames)) h.rrdys
+      (put_on Frames fwd (symbol.Mark BbScR) (put_other _ _ _ _ _ h.frames)) h.rrdys
       (puts_next b.taken fwd _ _ h.order)
-
-  put_back : (y : Symbol) {o : Outflow}
-      → InStep s.n o s.rrdys_in.got (roles RRdys back ++ (role RRdys y ∷ [])) a.rrdys.losses
-      → InStep s.n o s.rrdys_in.got (roles RRdys (back ++ (y ∷ []))) a.rrdys.losses
-  put_back y {o} h =
-      subst (λ (z : List Role). InStep s.n o s.rrdys_in.got z a.rrdys.losses)
-      (sym (roles-snoc RRdys back y)) h
 
   pub receiver_puts : (y : Symbol) → MayPut r y → Loop s r fwd back a b
       → Loop s (has_sent r y) fwd (back ++ (y ∷ [])) a (noted b (event.Item Put at y))
   receiver_puts (symbol.Frame k) m h =
       loop_by (omega (arith, h, how_many-snoc RRdys back (symbol.Frame k))) h.frames
-      (put_back (symbol.Frame k) (put_other _ _ _ _ _ h.rrdys)) h.order
+      (put_on RRdys back (symbol.Frame k) (put_other _ _ _ _ _ h.rrdys)) h.order
   receiver_puts symbol.RRdy m h = record {
     figures = omega (arith, h, m, how_many-snoc RRdys back symbol.RRdy);
     frames = h.frames;
     rrdys =
-        put_back symbol.RRdy
+        put_on RRdys back symbol.RRdy
         (subst
         (λ (x : ℕ). InStep s.n (one_more r.rrdys_out x) s.rrdys_in.got
         (roles RRdys back ++ (counted ∷ [])) a.rrdys.losses) h.figures.same_n (put_counted _ _ _ _ _
@@ -402,10 +356,10 @@ module _ (at : ℕ) (s r : Port) (fwd back : List Symbol) (a b : Account) where
   }
   receiver_puts (symbol.Mark BbScS) m h =
       loop_by (omega (arith, h, how_many-snoc RRdys back (symbol.Mark BbScS))) h.frames
-      (put_back (symbol.Mark BbScS) (put_other _ _ _ _ _ h.rrdys)) h.order
+      (put_on RRdys back (symbol.Mark BbScS) (put_other _ _ _ _ _ h.rrdys)) h.order
   receiver_puts (symbol.Mark BbScR) m h =
       loop_by (omega (arith, h, how_many-snoc RRdys back (symbol.Mark BbScR))) h.frames
-      (put_back (symbol.Mark BbScR) (put_mark _ _ _ _ _ m h.rrdys)) h.order
+      (put_on RRdys back (symbol.Mark BbScR) (put_mark _ _ _ _ _ m h.rrdys)) h.order
 
   -- a buffer freed
   pub receiver_frees : (k : Frame) (ks : List Frame) → 0 < r.buffers.held → Loop s r fwd back a b

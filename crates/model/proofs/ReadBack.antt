@@ -1,13 +1,13 @@
 -- Every record of every run is well-formed.
-use Rattle.std.proofs.Common.{◌≡◌, ℕ, zero, suc, ◌+◌, ◌*◌, ◌<◌, ◌≤◌, Bool, true, false, cond, eqb, ltb, [], ◌∷◌, ◌++◌}
-use Rattle.std.proofs.Common.{get_or, replicate, Some, None, Ok, Err, Option, sym, refl, subst, append-nil, arith}
+use Rattle.std.proofs.Common.{◌≡◌, ℕ, ◌+◌, ◌*◌, ◌<◌, ◌≤◌, Bool, true, false, cond, eqb, ltb, [], ◌∷◌, ◌++◌}
+use Rattle.std.proofs.Common.{Some, None, Ok, Err, Option, sym, refl, subst, append-nil, arith}
 use Rattle.ring.specs.Queue.{head?}
 use Rattle.symbol.specs.declared.Frame.{Frame}
 use Rattle.eventlog.specs.declared.event.Event.TheVariants as event
 use Rattle.eventlog.specs.declared.event.FrameKind.{FrameKind}
 use Rattle.eventlog.specs.declared.event.FrameKind.TheVariants.{Freed, Injected, Collected}
 use Rattle.bank.specs.Bank.{BankCalls, LawfulBank}
-use Rattle.port.specs.Port.{next_frame, Port, Turn, no_act, handed_out, released, injected_at, logged_in, new_port}
+use Rattle.port.specs.Port.{next_frame, Port, Turn, no_act, handed_out, released, injected_at, logged_in}
 use Rattle.symbol.specs.declared.end.End.{End}
 use Rattle.symbol.specs.declared.end.End.TheVariants.{West, East}
 use Rattle.model.specs.declared.Refusal.{Refusal}
@@ -20,7 +20,7 @@ use Rattle.model.proofs.Places.{end_below}
 use Rattle.model.proofs.Readable.{FineNumber, FineSymbols, FinePort, FineOldest, Fine, FineTurn, FineRun, fresh_fine}
 use Rattle.model.proofs.Readable.{well_frame, fine_port, fine_more, oldest_fine, handed_out_fine, released_fine}
 use Rattle.model.proofs.Readable.{next_fine, injected_fine, number_found, step_fine}
-use Rattle.model.proofs.Runs.{cabling, some_links, passed, login_fits, step_early, released_out, run_bounded}
+use Rattle.model.proofs.Runs.{collect_cases, unless, new_ports, cabling, some_links, passed, login_fits, step_early, released_out, run_bounded}
 
 module _ {B : Type 0} (M : BankCalls B) (law : (b : B) → LawfulBank M b) where
   -- every record of a run is well-formed
@@ -29,20 +29,15 @@ module _ {B : Type 0} (M : BankCalls B) (law : (b : B) → LawfulBank M b) where
 
   unless_fine : (r : Option Refusal) (c : Chain B) (t : Turn (Chain B)) (l : Log) → FineRun M c l
       → (r ≡ None → FineTurn M t) → FineRun M (unless_refused r c t).state (l ++ (unless_refused r c t).events)
-  unless_fine None c t l h f = fine_more M c l t h (f refl)
-  unless_fine (Some e) c t l h f = same_run c l h
-
-  new_ports_fine : (n q : ℕ) → FinePort (get_or (replicate n new_port) q new_port)
-  new_ports_fine zero q = fresh_fine 1 1 0 (omega arith)
-  new_ports_fine (suc n) zero = fresh_fine 1 1 0 (omega arith)
-  new_ports_fine (suc n) (suc q) = new_ports_fine n q
+  unless_fine r c t l h f =
+      unless (λ t. FineRun M t.state (l ++ t.events)) r c t (same_run c l h) (λ e. fine_more M c l t h (f e))
 
   login_fine : (o : Option Refusal) (c : Chain B) (k x y n : ℕ) → Fine M c → (o ≡ None → n ≤ 15)
       → Fine M (unless_refused o c (no_act (logs_in M c k x y n))).state
-  login_fine None c k x y n h f =
-      fine_port M (with_port c (2 * k) (logged_in x y n)) (2 * k + 1) (logged_in y x n)
-      (fine_port M c (2 * k) (logged_in x y n) h (fresh_fine x y n (f refl))) (fresh_fine y x n (f refl))
-  login_fine (Some e) c k x y n h f = h
+  login_fine o c k x y n h f =
+      unless (λ t. Fine M t.state) o c (no_act (logs_in M c k x y n)) h
+      (λ e. fine_port M (with_port c (2 * k) (logged_in x y n)) (2 * k + 1) (logged_in y x n)
+      (fine_port M c (2 * k) (logged_in x y n) h (fresh_fine x y n (f e))) (fresh_fine y x n (f e)))
 
   -- an act at an end, with one record of a fine frame
   end_fine : (c : Chain B) (e : End) (kind : FrameKind) (f : Frame) (s : Port) → 0 < c.links → Fine M c → FinePort s
@@ -56,24 +51,12 @@ module _ {B : Type 0} (M : BankCalls B) (law : (b : B) → LawfulBank M b) where
   collect_fine : (c : Chain B) (l : Log) (e : End) (room : ℕ) → FineRun M c l
       → FineRun M (collects M c e room).state (l ++ (collects M c e room).events)
   collect_fine c l e room h =
-      go (eqb c.links 0) (head? (port_of c (end_port c e)).buffers.waiting) refl
-      (oldest_fine (port_of c (end_port c e)).buffers.waiting (h.state.ports (end_port c e)).wait)
-    where
-      last : (f : Frame) (u : Bool) → eqb c.links 0 ≡ false → FineNumber f.number
-          → FineRun M (collects_by M c e (cond u (Err refusal.SheetFull) (Ok f))).state
-          (l ++ (collects_by M c e (cond u (Err refusal.SheetFull) (Ok f))).events)
-      last f true z w = same_run c l h
-      last f false z w =
-          fine_more M c l (collects_by M c e (Ok f)) h
-          (end_fine c e Collected f (handed_out (port_of c (end_port c e))) (some_links M law c z) h.state
-          (handed_out_fine (port_of c (end_port c e)) (h.state.ports (end_port c e))) w)
-
-      go : (t : Bool) (o : Option Frame) → eqb c.links 0 ≡ t → FineOldest o
-          → FineRun M (collects_by M c e (cond t (Err refusal.NoLinks) (from_oldest M o room))).state
-          (l ++ (collects_by M c e (cond t (Err refusal.NoLinks) (from_oldest M o room))).events)
-      go true o z w = same_run c l h
-      go false None z w = same_run c l h
-      go false (Some f) z w = last f (ltb room call_bytes) z w
+      let s = port_of c (end_port c e) in
+      let wait = (h.state.ports (end_port c e)).wait in
+      collect_cases M law (λ t. FineRun M t.state (l ++ t.events)) c e room (same_run c l h)
+      (λ k some w. fine_more M c l (collects_by M c e (Ok k)) h
+      (end_fine c e Collected k (handed_out s) some h.state (handed_out_fine s (h.state.ports (end_port c e)))
+      (subst FineOldest w (oldest_fine s.buffers.waiting wait))))
 
   release_fine : (c : Chain B) (e : End) (k room : ℕ) → Fine M c → release_refusal M c e k room ≡ None
       → FineTurn M (released_at M c e k)
@@ -97,7 +80,7 @@ module _ {B : Type 0} (M : BankCalls B) (law : (b : B) → LawfulBank M b) where
   run_fine {b} new = record {
     state = record {
       links = (cabling M law b).few;
-      ports = new_ports_fine 16;
+      ports = λ q. subst FinePort (sym (new_ports 16 q)) (fresh_fine 1 1 0 (omega arith));
       channels = λ d z. subst FineSymbols (sym ((cabling M law b).idle d z)) tt;
     };
     log = tt;

@@ -3,6 +3,7 @@ use Rattle.std.proofs.Common.{◌≡◌, ℕ, zero, suc, ◌+◌, ◌-◌, ◌*�
 use Rattle.std.proofs.Common.{eqb, ltb, ◌≢◌, ◌⊎◌, List, [], ◌∷◌, ◌++◌, Some, None, Option, sym, refl, subst, inl, inr}
 use Rattle.std.proofs.Common.{mod-lt, arith, pow_pos, pow_mono}
 use Rattle.std.proofs.ByRecursion.{All-append}
+use Rattle.std.proofs.lemmas.Bool.Decides.{nat_tests}
 use Rattle.std.proofs.lemmas.Bool.{cond_both, lt-ltb, eqb-false, eqb-true, cases_eq, or_parts, false≢true}
 use Rattle.std.specs.List.{AllByRecursion}
 use Rattle.ring.specs.Queue.{head?, tail}
@@ -21,9 +22,9 @@ use Rattle.eventlog.specs.declared.event.ItemKind.{ItemKind}
 use Rattle.eventlog.specs.declared.event.ItemKind.TheVariants.{Put, Got, Lost as Missed}
 use Rattle.reader.specs.Reading.{WellFormed}
 use Rattle.bank.specs.Bank.{BankCalls, LawfulBank}
-use Rattle.port.specs.Port.{Port, Turn, and_then, logged_in, lost_of, frames_found, rrdys_found, correction, is_full}
+use Rattle.port.specs.Port.{Buffers, Port, Turn, and_then, logged_in, lost_of, frames_found, rrdys_found, correction, is_full}
 use Rattle.port.specs.Port.{frame_held, credit_back, received, receive_events, frame_of, choice, after_send, emptied}
-use Rattle.port.specs.Port.{sent_on, unsent, with_buffers, lent_out, handed_out, among, without, freed_of, released}
+use Rattle.port.specs.Port.{sent_on, unsent, with_buffers, lent_out, handed_out, among, without, released}
 use Rattle.port.specs.Port.{next_frame, injected_at}
 use Rattle.model.specs.Chain.{Chain, facing, behind, is_end, freed_events, sound, symbols, port_of, with_port}
 use Rattle.model.specs.Chain.{with_bank, on, each_port, takes_item, takes, source, drawn, sends_symbol, sends, ticked}
@@ -31,7 +32,7 @@ use Rattle.model.specs.Chain.{stepped, last_tick}
 use Rattle.model.specs.Run.{Log}
 use Rattle.model.proofs.Banks.{bank_put, bank_put_off, bank_take, bank_take_off, bank_take_none, bank_ready}
 use Rattle.model.proofs.Banks.{bank_step}
-use Rattle.model.proofs.Links.{takes_links, sends_links, each_links}
+use Rattle.model.proofs.Links.{Still, takes_still, sends_still, each_still}
 use Rattle.model.proofs.Places.{behind_below, facing_below}
 use Rattle.model.proofs.Bounds.{at_port}
 
@@ -165,16 +166,13 @@ module _ (s : Port) (h : FinePort s) where
       (λ e. (z.0, without_fine k xs z.1))
 
   pub released_fine : (k : ℕ) → FinePort (released s k)
-  released_fine k = go (among k s.buffers.out)
-    where
-      go : (t : Bool) → FinePort (with_buffers s (cond t (freed_of s.buffers k) s.buffers))
-      go true = record {
+  released_fine k =
+      cond_both (among k s.buffers.out) _ _ (λ (b : Buffers). FinePort (with_buffers s b)) (λ e. record {
         small = h.small;
         boxed = h.boxed;
         wait = h.wait;
         outside = without_fine k s.buffers.out h.outside;
-      }
-      go false = h
+      }) (λ e. h)
 
   pub next_fine : FineNumber (next_frame s).number
   next_fine = (omega arith, omega arith)
@@ -214,11 +212,7 @@ choice_fine s o z =
 -- a number that is among fine ones is fine
 pub number_found : (k : ℕ) (xs : List ℕ) → among k xs ≡ true → AllByRecursion FineNumber xs → FineNumber k
 number_found k [] e z = absurd (false≢true e)
-number_found k (x ∷ xs) e z = go (eqb x k) refl e (λ q. number_found k xs q z.1)
-  where
-    go : (t : Bool) → eqb x k ≡ t → (t || among k xs) ≡ true → (among k xs ≡ true → FineNumber k) → FineNumber k
-    go true q e r = subst FineNumber (eqb-true x k q) z.0
-    go false q e r = r e
+number_found k (x ∷ xs) e z = grind (arith, nat_tests, number_found k xs)
 
 module _ {B : Type 0} (M : BankCalls B) where
   pub record Fine (c : Chain B) : Type 0 where
@@ -243,13 +237,22 @@ module _ {B : Type 0} (M : BankCalls B) where
   pub fine_port : (c : Chain B) (p : ℕ) (s : Port) → Fine c → FinePort s → Fine (with_port c p s)
   fine_port c p s h z = record {
     links = h.links;
-    ports = λ q. at_port FinePort c.ports p q s z (h.ports q);
+    ports = λ q. at_port FinePort c.ports p q s (λ e. z) (h.ports q);
     channels = h.channels;
   }
 
-  fine_bank : (c : Chain B) (b : B) → Fine c
-      → ((d : ℕ) → d < 2 * c.links → FineSymbols (symbols (M.known b d).items)) → Fine (with_bank c b)
-  fine_bank c b h z = record { links = h.links; ports = h.ports; channels = z }
+  -- a bank changed at one direction
+  fine_bank : (c : Chain B) (b : B) (p : ℕ) → Fine c → FineSymbols (symbols (M.known b p).items)
+      → ((d : ℕ) → d ≢ p → symbols (M.known b d).items ≡ on M c d) → Fine (with_bank c b)
+  fine_bank c b p h here off = record {
+    links = h.links;
+    ports = h.ports;
+    channels = λ d z. go d z (cases_eq d p);
+  }
+    where
+      go : (d : ℕ) → d < 2 * c.links → (d ≡ p) ⊎ (d ≡ p → ⊥) → FineSymbols (symbols (M.known b d).items)
+      go d z (inl q) = subst (λ (v : ℕ). FineSymbols (symbols (M.known b v).items)) (sym q) here
+      go d z (inr n) = subst FineSymbols (sym (off d n)) (h.channels d z)
 
   fine_then : (t : Turn (Chain B)) (f : Chain B → Turn (Chain B)) → FineTurn t → FineTurn (f t.state)
       → FineTurn (and_then t f)
@@ -262,20 +265,6 @@ module _ {B : Type 0} (M : BankCalls B) where
     takes_fine : (c : Chain B) (p : ℕ) → p < 2 * c.links → Fine c → FineTurn (takes M c p)
     takes_fine c p lt h = go (M.known c.bank (facing p)).ready (M.known c.bank (facing p)).items refl refl
       where
-        taken_at : (i : Item) (is : List Item) → (M.known c.bank (facing p)).ready ≡ true
-            → (M.known c.bank (facing p)).items ≡ i ∷ is
-            → (FineSymbol i.symbol) × (FineSymbols (symbols is))
-            → (d : ℕ) → d < 2 * c.links → FineSymbols (symbols (M.known (M.take c.bank (facing p)) d).items)
-        taken_at i is e f z d below = by (cases_eq d (facing p))
-          where
-            by : (d ≡ facing p) ⊎ (d ≡ facing p → ⊥)
-                → FineSymbols (symbols (M.known (M.take c.bank (facing p)) d).items)
-            by (inl q) =
-                subst (λ (v : ℕ). FineSymbols (symbols (M.known (M.take c.bank (facing p)) v).items)) (sym q)
-                (subst (λ (xs : List Item). FineSymbols (symbols xs))
-                (sym (bank_take M law c.bank (facing p) i is e f)) z.1)
-            by (inr n) = subst FineSymbols (sym (bank_take_off M law c.bank (facing p) d n)) (h.channels d below)
-
         go : (t : Bool) (xs : List Item) → (M.known c.bank (facing p)).ready ≡ t
             → (M.known c.bank (facing p)).items ≡ xs
             → FineTurn (takes_item M (with_bank c (M.take c.bank (facing p))) p (cond t (head? xs) None))
@@ -292,7 +281,10 @@ module _ {B : Type 0} (M : BankCalls B) where
               state =
                   fine_port (with_bank c (M.take c.bank (facing p))) p
                   (received (port_of c p) i.note i.symbol)
-                  (fine_bank c (M.take c.bank (facing p)) h (taken_at i is e f z))
+                  (fine_bank c (M.take c.bank (facing p)) (facing p) h
+                  (subst (λ (xs : List Item). FineSymbols (symbols xs))
+                  (sym (bank_take M law c.bank (facing p) i is e f)) z.1)
+                  (λ d n. bank_take_off M law c.bank (facing p) d n))
                   (received_fine (port_of c p) (h.ports p) i.note i.symbol z.0);
               events =
                   received_well p (correction (port_of c p) i.note i.symbol) i.note i.symbol
@@ -340,17 +332,6 @@ module _ {B : Type 0} (M : BankCalls B) where
         sent_still : (o : Option Symbol) → Fine (with_sent c p o)
         sent_still o = fine_port c p (after_send (port_of c p) o) h (sent_fine (port_of c p) (h.ports p) o)
 
-        put_at : (y : Symbol) → (M.known c.bank p).space ≡ true → FineSymbol y
-            → (d : ℕ) → d < 2 * c.links → FineSymbols (symbols (M.known (M.put c.bank p (sound y)) d).items)
-        put_at y e z d below = by (cases_eq d p)
-          where
-            by : (d ≡ p) ⊎ (d ≡ p → ⊥) → FineSymbols (symbols (M.known (M.put c.bank p (sound y)) d).items)
-            by (inl q) =
-                subst (λ (v : ℕ). FineSymbols (symbols (M.known (M.put c.bank p (sound y)) v).items)) (sym q)
-                (subst FineSymbols (sym (bank_put M law c.bank p y e))
-                (All-append FineSymbol (on M c p) (y ∷ []) (h.channels p lt) (z, tt)))
-            by (inr n) = subst FineSymbols (sym (bank_put_off M law c.bank p d y n)) (h.channels d below)
-
         go : (t : Bool) (o : Option Symbol) → (M.known c.bank p).space ≡ t → FineChoice o
             → FineTurn (sends_symbol M (with_sent c p (cond t o None)) p (cond t o None))
         go false o e z = record { state = sent_still None; events = tt }
@@ -358,27 +339,29 @@ module _ {B : Type 0} (M : BankCalls B) where
         go true (Some y) e z = record {
           state =
               drawn_fine (with_bank (with_sent c p (Some y)) (M.put c.bank p (sound y))) p y
-              (fine_bank (with_sent c p (Some y)) (M.put c.bank p (sound y)) (sent_still (Some y))
-              (put_at y e z));
+              (fine_bank (with_sent c p (Some y)) (M.put c.bank p (sound y)) p (sent_still (Some y))
+              (subst FineSymbols (sym (bank_put M law c.bank p y e))
+              (All-append FineSymbol (on M c p) (y ∷ []) (h.channels p lt) (z, tt)))
+              (λ d n. bank_put_off M law c.bank p d y n));
           events = (well_item Put p y (omega (arith, lt, h.links)) z, freed_well c.links p y h.links lt z);
         }
 
-    each_fine : (f : Chain B → ℕ → Turn (Chain B)) → ((c : Chain B) (p : ℕ) → (f c p).state.links ≡ c.links)
+    each_fine : (f : Chain B → ℕ → Turn (Chain B)) → ((c : Chain B) (p : ℕ) → Still c (f c p).state)
         → ((c : Chain B) (p : ℕ) → p < 2 * c.links → Fine c → FineTurn (f c p))
         → (c : Chain B) (k : ℕ) → k ≤ 2 * c.links → Fine c → FineTurn (each_port f k c)
     each_fine f same fine c zero z h = record { state = h; events = tt }
     each_fine f same fine c (suc k) z h =
         let before = each_fine f same fine c k (omega (arith, z)) h in
         fine_then (each_port f k c) (λ d. f d k) before
-        (fine (each_port f k c).state k (omega (arith, z, each_links f same c k)) before.state)
+        (fine (each_port f k c).state k (omega (arith, z, (each_still f same c k).links)) before.state)
 
     pub step_fine : (c : Chain B) → c.tick < last_tick → Fine c → FineTurn (stepped M c)
     step_fine c early h =
         fine_then (and_then (ticked M c) (each_port (takes M) (2 * c.links)))
         (each_port (sends M) (2 * c.links)) taken
-        (each_fine (sends M) (sends_links M) sends_fine
+        (each_fine (sends M) (sends_still M) sends_fine
         (each_port (takes M) (2 * c.links) (ticked M c).state).state (2 * c.links)
-        (omega (arith, each_links (takes M) (takes_links M) (ticked M c).state (2 * c.links))) taken.state)
+        (omega (arith, (each_still (takes M) (takes_still M) (ticked M c).state (2 * c.links)).links)) taken.state)
       where
         tick : FineTurn (ticked M c)
         tick = record {
@@ -393,5 +376,5 @@ module _ {B : Type 0} (M : BankCalls B) where
         taken : FineTurn (and_then (ticked M c) (each_port (takes M) (2 * c.links)))
         taken =
             fine_then (ticked M c) (each_port (takes M) (2 * c.links)) tick
-            (each_fine (takes M) (takes_links M) takes_fine (ticked M c).state (2 * c.links) (omega arith)
+            (each_fine (takes M) (takes_still M) takes_fine (ticked M c).state (2 * c.links) (omega arith)
             tick.state)

@@ -1,6 +1,6 @@
 -- The records of one port in a log that grows.
-use Rattle.std.proofs.Common.{◌≡◌, ℕ, ◌<◌, Bool, true, false, cond, eqb, List, [], ◌∷◌, ◌++◌, sym, refl, ap, ◌∙◌}
-use Rattle.std.proofs.Common.{subst, append_assoc, append-nil}
+use Rattle.std.proofs.Common.{◌≡◌, ℕ, ◌<◌, Bool, true, false, cond, eqb, [], ◌∷◌, ◌++◌, sym, refl, ap, ◌∙◌}
+use Rattle.std.proofs.Common.{subst, append_assoc, append-nil, rules}
 use mathlib.Core.Path.{fun_ext}
 use Rattle.std.specs.List.{AllByRecursion}
 use Rattle.symbol.specs.declared.Frame.{Frame}
@@ -17,7 +17,6 @@ use Rattle.eventlog.specs.declared.event.ItemKind.TheVariants.{Put, Got, Lost as
 use Rattle.port.specs.Port.{Port, frames_found, rrdys_found}
 use Rattle.model.specs.Run.{Log}
 use Rattle.model.specs.Figures.{is_at, records}
-use Rattle.model.specs.Stretches.{Passage, Stretches}
 use Rattle.model.proofs.Accounts.{Account, noted, noted_all, account, no_account, buffers_in_use, credit_used}
 use Rattle.model.proofs.Loop.{taken_events}
 
@@ -87,44 +86,15 @@ pub record SameFrames (a a' : Account) : Type 0 where
   pub rrdys_cut : a'.rrdys.losses.cut ≡ a.rrdys.losses.cut
   pub takes : a'.takes ≡ a.takes
 
--- the parts of an account that they leave, as one value
-pub record Parts : Type 0 where
-  pub got : List Frame
-  pub injected : List Frame
-  pub collected : List Frame
-  pub frames_cut : Stretches
-  pub rrdys_cut : Stretches
-  pub takes : List Passage
-
-abbrev parts : Account → Parts
-parts a = record {
-  got = a.got;
-  injected = a.injected;
-  collected = a.collected;
-  frames_cut = a.frames.losses.cut;
-  rrdys_cut = a.rrdys.losses.cut;
-  takes = a.takes;
-}
-
-same_parts : (a a' : Account) → parts a' ≡ parts a → SameFrames a a'
-same_parts a a' e = record {
-  got = ap (λ (v : Parts). v.got) e;
-  injected = ap (λ (v : Parts). v.injected) e;
-  collected = ap (λ (v : Parts). v.collected) e;
-  frames_cut = ap (λ (v : Parts). v.frames_cut) e;
-  rrdys_cut = ap (λ (v : Parts). v.rrdys_cut) e;
-  takes = ap (λ (v : Parts). v.takes) e;
-}
-
 module _ (p x z : ℕ) (f : Frame) (l : Log) where
   put_freed : (a : Account) (t u : Bool)
       → SameFrames a
       (noted_all a
       (cond t (event.Item Put x (symbol.Frame f) ∷ []) [] ++ (cond u (event.Frame Freed z f ∷ []) [] ++ [])))
-  put_freed a true true = same_parts _ _ refl
-  put_freed a true false = same_parts _ _ refl
-  put_freed a false true = same_parts _ _ refl
-  put_freed a false false = same_parts _ _ refl
+  put_freed a true true = search rules
+  put_freed a true false = search rules
+  put_freed a false true = search rules
+  put_freed a false false = search rules
 
   abbrev both : Log
   both = event.Item Put x (symbol.Frame f) ∷ event.Frame Freed z f ∷ []

@@ -1,23 +1,24 @@
 -- Every run, from the cabling on.
-use Rattle.std.proofs.Common.{◌≡◌, ℕ, zero, suc, ◌+◌, ◌-◌, ◌*◌, ◌/◌, ◌%◌, ◌^◌, ◌<◌, ◌≤◌, Bool, true, false, cond, ◌||◌}
+use Rattle.std.proofs.Common.{◌≡◌, ℕ, zero, suc, ◌+◌, ◌*◌, ◌/◌, ◌%◌, ◌^◌, ◌<◌, ◌≤◌, Bool, true, false, cond, ◌||◌}
 use Rattle.std.proofs.Common.{eqb, ltb, leb, ◌≢◌, ◌⊎◌, List, [], ◌∷◌, ◌++◌, length, get_or, set, replicate, Some, None}
 use Rattle.std.proofs.Common.{Ok, Err, Option, Result, sym, refl, ap, ◌∙◌, subst, inl, inr, append-nil, le_refl, arith}
 use Rattle.std.proofs.Common.{length-set, pow_pos}
 use native.Mathlib.Nat.{zero-mod}
-use lib.ListN.{length-replicate, get_or-replicate}
-use Rattle.std.proofs.lemmas.Bool.{false≢true, eqb-false, cases_eq, leb-true, leb-false, and_parts, or_parts, ltb-false}
+use lib.ListN.{length-replicate}
+use Rattle.std.proofs.lemmas.Bool.Decides.{nat_tests}
+use Rattle.std.proofs.lemmas.Bool.{cond_both, false≢true, eqb-false, cases_eq, leb-true, leb-false, and_parts, or_parts, ltb-false}
 use Rattle.ring.specs.Queue.{head?, tail, empty}
 use Rattle.symbol.specs.declared.Frame.{Frame}
 use Rattle.symbol.specs.declared.Item.{Item}
 use Rattle.eventlog.specs.declared.event.Event.TheVariants as event
 use Rattle.eventlog.specs.declared.event.FrameKind.TheVariants.{Freed}
 use Rattle.bank.specs.Bank.{BankCalls, LawfulBank, count}
-use Rattle.port.specs.Port.{freed_of, Port, Turn, no_act, among, handed_out, released, injected_at, logged_in}
+use Rattle.port.specs.Port.{Buffers, Port, Turn, no_act, among, handed_out, released, injected_at, logged_in}
 use Rattle.port.specs.Port.{new_port}
 use Rattle.symbol.specs.declared.end.End.{End}
 use Rattle.model.specs.declared.Refusal.{Refusal}
 use Rattle.model.specs.declared.Refusal.TheVariants as refusal
-use Rattle.model.specs.Chain.{injected, call_bytes, last_tick, Chain, facing, port_of, with_port, end_port, all_idle}
+use Rattle.model.specs.Chain.{injected, call_bytes, last_tick, Chain, port_of, with_port, end_port, all_idle}
 use Rattle.model.specs.Chain.{cabled_links, cabled, stepped, from_oldest, collectable, collects_by, collects}
 use Rattle.model.specs.Chain.{released_at, logs_in, logins, step_refusal, inject_refusal, release_refusal}
 use Rattle.model.specs.Chain.{login_refusal, unless_refused, symbols, on}
@@ -26,14 +27,14 @@ use Rattle.model.specs.Run.{is_running, is_draining, Moving, runs, drains, Run}
 use Rattle.model.specs.Figures.{ticks, tick_in}
 use Rattle.model.specs.OnePlace.{up_to}
 use Rattle.model.proofs.Accounts.{account, no_account, no_tally}
-use Rattle.model.proofs.Lists.{none_some, first_is}
+use Rattle.model.proofs.Lists.{first_is}
 use Rattle.model.proofs.InStep.{InStep}
 use Rattle.model.proofs.Loop.{Loop}
 use Rattle.model.proofs.Records.{AllMeetRoom, rooms_kept}
-use Rattle.model.proofs.Places.{facing_is, behind_below, port_same, port_other, end_below}
+use Rattle.model.proofs.Places.{FacingIs, facing_is, behind_below, port_same, port_other, end_below}
 use Rattle.model.proofs.Kept.{Loops, loop_same, Stocked, Invariant, Kept}
 use Rattle.model.proofs.Calls.{step_kept, inject_kept, collect_kept, release_kept}
-use Rattle.model.proofs.Bounds.{stepped_tick, Within, Bounded, new_port_within, fresh_within, handed_within}
+use Rattle.model.proofs.Bounds.{at_port, stepped_tick, Within, Bounded, new_port_within, fresh_within, handed_within}
 use Rattle.model.proofs.Bounds.{released_within, injected_within, with_within, step_bounded}
 use Rattle.model.proofs.Sizes.{total-append, step_ticks}
 
@@ -47,11 +48,15 @@ pub record LoggedIn (s r : Port) : Type 0 where
 
 same_all : (ports : List Port) (i j : ℕ) (s : Port) → s.buffers.all ≡ (get_or ports i new_port).buffers.all
     → (get_or (set ports i s) j new_port).buffers.all ≡ (get_or ports j new_port).buffers.all
-same_all [] i j s e = refl
-same_all (x ∷ xs) zero zero s e = e
-same_all (x ∷ xs) zero (suc j) s e = refl
-same_all (x ∷ xs) (suc i) zero s e = refl
-same_all (x ∷ xs) (suc i) (suc j) s e = same_all xs i j s e
+same_all ports i j s e =
+    at_port (λ z. z.buffers.all ≡ (get_or ports j new_port).buffers.all) ports i j s
+    (λ q. e ∙ ap (λ (v : ℕ). (get_or ports v new_port).buffers.all) (sym q)) refl
+
+-- a call that is refused does nothing, and any other its turn
+pub unless : {B : Type 0} (P : Turn (Chain B) → Type 0) (r : Option Refusal) (c : Chain B) (t : Turn (Chain B))
+    → P (no_act c) → (r ≡ None → P t) → P (unless_refused r c t)
+unless P None c t h f = f refl
+unless P (Some e) c t h f = h
 
 -- a stream of which nothing was sent
 new_stream : (n : ℕ) → InStep n (record { sent = 0; due = false }) 0 [] no_tally.losses
@@ -66,6 +71,12 @@ new_stream n = record {
 
 new_loop : (a b n : ℕ) → Loop (logged_in a b n) (logged_in b a n) [] [] no_account no_account
 new_loop a b n = record { figures = omega arith; frames = new_stream n; rrdys = new_stream n; order = refl }
+
+-- each port of a new table is as new as the one past its end
+pub new_ports : (n q : ℕ) → get_or (replicate n new_port) q new_port ≡ new_port
+new_ports zero q = refl
+new_ports (suc n) zero = refl
+new_ports (suc n) (suc q) = new_ports n q
 
 module _ {B : Type 0} (M : BankCalls B) (law : (b : B) → LawfulBank M b) where
   -- a cabled chain: nothing has moved yet
@@ -89,8 +100,7 @@ module _ {B : Type 0} (M : BankCalls B) (law : (b : B) → LawfulBank M b) where
     fresh_loops : Loops c.links (port_of c) (on M c) (λ p. account p [])
     fresh_loops p q lt f = go (facing_is p)
       where
-        go : ((p % 2 ≡ 0) × (facing p ≡ p + 1)) ⊎ ((p % 2 ≡ 1) × (facing p ≡ p - 1))
-            → Loop (port_of c p) (port_of c q) (on M c p) (on M c q) no_account no_account
+        go : FacingIs p → Loop (port_of c p) (port_of c q) (on M c p) (on M c q) no_account no_account
         go (inl e) =
             (link_loops (p / 2) (omega arith) p q (omega (arith, e.0)) (omega (arith, e.0, e.1, f)) (h.idle p lt)
             (h.idle q (omega (arith, e.0, e.1, f)))).0
@@ -102,7 +112,7 @@ module _ {B : Type 0} (M : BankCalls B) (law : (b : B) → LawfulBank M b) where
         → P (port_of c p)
     each_fresh P every p lt = go (facing_is p)
       where
-        go : ((p % 2 ≡ 0) × (facing p ≡ p + 1)) ⊎ ((p % 2 ≡ 1) × (facing p ≡ p - 1)) → P (port_of c p)
+        go : FacingIs p → P (port_of c p)
         go (inl e) = let g = h.linked (p / 2) (omega arith) in let ep : p ≡ 2 * (p / 2) = omega (arith, e.0) in
             subst P (sym (ap (port_of c) ep ∙ g.west_is)) (every g.own g.other g.n)
         go (inr e) = let g = h.linked (p / 2) (omega arith) in let ep : p ≡ 2 * (p / 2) + 1 = omega (arith, e.0) in
@@ -192,32 +202,17 @@ module _ {B : Type 0} (M : BankCalls B) (law : (b : B) → LawfulBank M b) where
     pub few : k ≤ 8
     pub idle : (d : ℕ) → d < 2 * k → symbols (M.known b d).items ≡ []
 
-  no_cabling : (b : B) → Cabling b 0
-  no_cabling b = record { few = omega arith; idle = λ d z. absurd (omega arith) }
-
   pub cabling : (b : B) → Cabling b (cabled_links M b)
-  cabling b = go (eqb (count M b % 2) 0) (leb (count M b) 16) (all_idle M b (count M b)) refl refl
-    where
-      go : (t u v : Bool) → leb (count M b) 16 ≡ u → all_idle M b (count M b) ≡ v
-          → Cabling b (cond t (cond u (cond v (count M b / 2) 0) 0) 0)
-      go false u v f g = no_cabling b
-      go true false v f g = no_cabling b
-      go true true false f g = no_cabling b
-      go true true true f g = record {
-        few = omega (arith, leb-true (count M b) 16 f);
-        idle = λ d z. all_idle_at b (count M b) d g (omega arith);
-      }
+  cabling b = record {
+    few = grind (arith, nat_tests);
+    idle = λ d z. grind (arith, nat_tests, all_idle_at b (count M b) d);
+  }
 
   cabled_fresh : (b : B) → Fresh (cabled M b)
   cabled_fresh b = record {
     size = omega (arith, (cabling b).few, length-replicate 16 new_port);
-    linked = λ i z. record {
-      own = 1;
-      other = 1;
-      n = 0;
-      west_is = get_or-replicate 16 (2 * i) new_port new_port (omega (arith, z, (cabling b).few));
-      east_is = get_or-replicate 16 (2 * i + 1) new_port new_port (omega (arith, z, (cabling b).few));
-    };
+    linked =
+        λ i z. record { own = 1; other = 1; n = 0; west_is = new_ports 16 (2 * i); east_is = new_ports 16 (2 * i + 1) };
     idle = (cabling b).idle;
   }
 
@@ -239,12 +234,11 @@ module _ {B : Type 0} (M : BankCalls B) (law : (b : B) → LawfulBank M b) where
 
   unless_kept : (r : Option Refusal) (c : Chain B) (t : Turn (Chain B)) (l : Log) → Invariant M c l
       → (r ≡ None → Kept M l t) → Kept M l (unless_refused r c t)
-  unless_kept None c t l h f = f refl
-  unless_kept (Some e) c t l h f = subst (Invariant M c) (sym (append-nil l)) h
+  unless_kept r c t l h f = unless (Kept M l) r c t (subst (Invariant M c) (sym (append-nil l)) h) f
 
   -- a test that refuses has not
   pub passed : (t : Bool) (r : Refusal) (o : Option Refusal) → cond t (Some r) o ≡ None → (t ≡ false) × (o ≡ None)
-  passed true r o e = absurd (none_some (sym e))
+  passed true r o e = cc
   passed false r o e = (refl, e)
 
   pub some_links : (c : Chain B) → eqb c.links 0 ≡ false → 0 < c.links
@@ -264,42 +258,37 @@ module _ {B : Type 0} (M : BankCalls B) (law : (b : B) → LawfulBank M b) where
     cuts = λ p z. absurd (omega arith);
   }
 
-  collect_after : (c : Chain B) (l : Log) (e : End) (room : ℕ) → Invariant M c l → Kept M l (collects M c e room)
-  collect_after c l e room h = go (eqb c.links 0) (head? (port_of c (end_port c e)).buffers.waiting) refl refl
+  -- a collect is refused, or hands out the oldest frame at its end
+  pub collect_cases : (P : Turn (Chain B) → Type 0) (c : Chain B) (e : End) (room : ℕ) → P (no_act c)
+      → ((k : Frame) → 0 < c.links → head? (port_of c (end_port c e)).buffers.waiting ≡ Some k
+      → P (collects_by M c e (Ok k)))
+      → P (collects M c e room)
+  collect_cases P c e room same out =
+      go (eqb c.links 0) (head? (port_of c (end_port c e)).buffers.waiting) refl refl
     where
-      same : Kept M l (no_act c)
-      same = subst (Invariant M c) (sym (append-nil l)) h
-
-      last : (k : Frame) (u : Bool) → eqb c.links 0 ≡ false
-          → head? (port_of c (end_port c e)).buffers.waiting ≡ Some k
-          → Kept M l (collects_by M c e (cond u (Err refusal.SheetFull) (Ok k)))
-      last k true z w = same
-      last k false z w =
-          collect_kept M law c l e k (tail (port_of c (end_port c e)).buffers.waiting) h (some_links c z)
-          (first_is (port_of c (end_port c e)).buffers.waiting k w)
-
       go : (t : Bool) (o : Option Frame) → eqb c.links 0 ≡ t
           → head? (port_of c (end_port c e)).buffers.waiting ≡ o
-          → Kept M l (collects_by M c e (cond t (Err refusal.NoLinks) (from_oldest M o room)))
+          → P (collects_by M c e (cond t (Err refusal.NoLinks) (from_oldest M o room)))
       go true o z w = same
       go false None z w = same
-      go false (Some k) z w = last k (ltb room call_bytes) z w
+      go false (Some k) z w =
+          cond_both (ltb room call_bytes) (Err refusal.SheetFull) (Ok k)
+          (λ (r : Result Frame Refusal). P (collects_by M c e r)) (λ u. same) (λ u. out k (some_links c z) w)
+
+  collect_after : (c : Chain B) (l : Log) (e : End) (room : ℕ) → Invariant M c l → Kept M l (collects M c e room)
+  collect_after c l e room h =
+      collect_cases (Kept M l) c e room (subst (Invariant M c) (sym (append-nil l)) h)
+      (λ k some w. collect_kept M law c l e k (tail (port_of c (end_port c e)).buffers.waiting) h some
+      (first_is (port_of c (end_port c e)).buffers.waiting k w))
 
   released_all : (s : Port) (k : ℕ) → (released s k).buffers.all ≡ s.buffers.all
-  released_all s k = go (among k s.buffers.out)
-    where
-      go : (t : Bool) → (cond t (freed_of s.buffers k) s.buffers).all ≡ s.buffers.all
-      go true = refl
-      go false = refl
+  released_all s k =
+      cond_both (among k s.buffers.out) _ _ (λ (b : Buffers). b.all ≡ s.buffers.all) (λ e. refl) (λ e. refl)
 
   -- a release that is not refused is of a number handed out
   pub released_out : (c : Chain B) (e : End) (k room : ℕ) → release_refusal M c e k room ≡ None
       → among k (port_of c (end_port c e)).buffers.out ≡ true
-  released_out c e k room z = go (among k (port_of c (end_port c e)).buffers.out) (ltb room call_bytes) z
-    where
-      go : (t u : Bool) → cond t (cond u (Some refusal.SheetFull) None) (Some refusal.NotHandedOut) ≡ None → t ≡ true
-      go true u w = refl
-      go false u w = absurd (none_some (sym w))
+  released_out c e k room z = grind (arith, nat_tests)
 
   release_after : (c : Chain B) (l : Log) (e : End) (k room : ℕ) → Invariant M c l
       → release_refusal M c e k room ≡ None → Kept M l (released_at M c e k)
@@ -316,24 +305,11 @@ module _ {B : Type 0} (M : BankCalls B) (law : (b : B) → LawfulBank M b) where
           (released_out c e k room z)
 
   login_after : (c : Chain B) (k x y m n : ℕ) → Fresh c → Fresh (logins M c k x y m n).state
-  login_after c k x y m n h = go (login_refusal M c k x y m n) refl
-    where
-      go : (o : Option Refusal) → login_refusal M c k x y m n ≡ o
-          → Fresh (unless_refused o c (no_act (logs_in M c k x y n))).state
-      go None e = login_fresh c k x y n (leb-false c.links k (passed (leb c.links k) refusal.NoLinks _ e).0) h
-      go (Some r) e = h
+  login_after c k x y m n h =
+      unless (λ t. Fresh t.state) (login_refusal M c k x y m n) c (no_act (logs_in M c k x y n)) h
+      (λ e. login_fresh c k x y n (leb-false c.links k (passed (leb c.links k) refusal.NoLinks _ e).0) h)
 
   -- every run stays within its bounds
-  new_within : (n q : ℕ) → Within 0 0 (get_or (replicate n new_port) q new_port)
-  new_within zero q = new_port_within 0 0
-  new_within (suc n) zero = new_port_within 0 0
-  new_within (suc n) (suc q) = new_within n q
-
-  unless_bounded : (r : Option Refusal) (c : Chain B) (t : Turn (Chain B)) → Bounded c
-      → (r ≡ None → Bounded t.state) → Bounded (unless_refused r c t).state
-  unless_bounded None c t h f = f refl
-  unless_bounded (Some e) c t h f = h
-
   end_bounded : (c : Chain B) (p : ℕ) (s : Port) → Bounded c → Within c.tick c.tick s → Bounded (with_port c p s)
   end_bounded c p s h w = record {
     links = h.links;
@@ -341,40 +317,22 @@ module _ {B : Type 0} (M : BankCalls B) (law : (b : B) → LawfulBank M b) where
     ports = with_within c.tick c.tick c p s w h.ports;
   }
 
-  collect_bounded : (c : Chain B) (e : End) (r : Result Frame Refusal) → Bounded c
-      → Bounded (collects_by M c e r).state
-  collect_bounded c e (Ok k) h =
-      end_bounded c (end_port c e) (handed_out (port_of c (end_port c e))) h
-      (handed_within c.tick c.tick (port_of c (end_port c e)) (h.ports (end_port c e)))
-  collect_bounded c e (Err r) h = h
-
   pub step_early : (c : Chain B) (room : ℕ) → Bounded c → step_refusal M c room ≡ None → c.tick < last_tick
-  step_early c room h z =
-      let n : c.tick ≢ last_tick =
-      eqb-false c.tick last_tick
-      (passed (eqb c.tick last_tick) refusal.LastTick _
-      (passed (eqb c.links 0) refusal.NoLinks _ z).1).0 in
-      omega (arith, h.tick)
+  step_early c room h z = grind (arith, nat_tests)
 
   -- what a login that is not refused has asked
-  pub login_fits : (c : Chain B) (k x y m n : ℕ) → login_refusal M c k x y m n ≡ None → (x ≤ 32) × (y ≤ 32) × (n ≤ 15)
-  login_fits c k x y m n z =
-      let buffers-asked = (passed (leb c.links k) refusal.NoLinks _ z).1 in
-      let a = passed (ltb x 1 || (ltb 32 x || (ltb y 1 || ltb 32 y))) refusal.BadBuffers _ buffers-asked in
-      let n-asked = passed (ltb 15 m || ltb 15 n) refusal.BadN _ a.1 in
-      let b =
-      or_parts (ltb 32 x) (ltb y 1 || ltb 32 y)
-      (or_parts (ltb x 1) (ltb 32 x || (ltb y 1 || ltb 32 y)) a.0).1 in (
-        ltb-false 32 x b.0,
-        ltb-false 32 y (or_parts (ltb y 1) (ltb 32 y) b.1).1,
-        ltb-false 15 n
-            (or_parts (ltb 15 m) (ltb 15 n) n-asked.0).1,
-      )
+  pub login_fits : (c : Chain B) (k x y m n : ℕ) → login_refusal M c k x y m n ≡ None
+      → (x ≤ 32) × (y ≤ 32) × (n ≤ 15) × (k < c.links)
+  login_fits c k x y m n z = grind (arith, nat_tests)
 
   pub run_bounded : {b : B} {ph : Phase} {c : Chain B} {l : Log} → Run M b ph c l → Bounded c
-  run_bounded {b} new = record { links = (cabling b).few; tick = omega arith; ports = new_within 16 }
+  run_bounded {b} new = record {
+    links = (cabling b).few;
+    tick = omega arith;
+    ports = λ q. subst (Within 0 0) (sym (new_ports 16 q)) (new_port_within 0 0);
+  }
   run_bounded (login {c = c} k x y m n r) =
-      unless_bounded (login_refusal M c k x y m n) c (no_act (logs_in M c k x y n)) (run_bounded r)
+      unless (λ t. Bounded t.state) (login_refusal M c k x y m n) c (no_act (logs_in M c k x y n)) (run_bounded r)
       (λ z. let f = login_fits c k x y m n z in
       end_bounded (with_port c (2 * k) (logged_in x y n)) (2 * k + 1) (logged_in y x n)
       (end_bounded c (2 * k) (logged_in x y n) (run_bounded r)
@@ -382,18 +340,21 @@ module _ {B : Type 0} (M : BankCalls B) (law : (b : B) → LawfulBank M b) where
       (fresh_within c.tick c.tick y x n f.1 f.0 f.2))
   run_bounded (start r) = run_bounded r
   run_bounded (step {c = c} m room r) =
-      unless_bounded (step_refusal M c room) c (stepped M c) (run_bounded r)
+      unless (λ t. Bounded t.state) (step_refusal M c room) c (stepped M c) (run_bounded r)
       (λ z. step_bounded M c (step_early c room (run_bounded r) z) (run_bounded r))
   run_bounded (inject {c = c} e room r) =
-      unless_bounded (inject_refusal M c e room) c (injected M c e) (run_bounded r)
+      unless (λ t. Bounded t.state) (inject_refusal M c e room) c (injected M c e) (run_bounded r)
       (λ z. end_bounded c (end_port c e) (injected_at (port_of c (end_port c e))) (run_bounded r)
       (injected_within c.tick c.tick (port_of c (end_port c e)) ((run_bounded r).ports (end_port c e))
       (leb-false 32 (length (port_of c (end_port c e)).outbox.frames)
       (passed (leb 32 (length (port_of c (end_port c e)).outbox.frames)) refusal.OutboxFull _
       (passed (eqb c.links 0) refusal.NoLinks _ z).1).0)))
-  run_bounded (collect {c = c} m e room r) = collect_bounded c e (collectable M c e room) (run_bounded r)
+  run_bounded (collect {c = c} m e room r) =
+      collect_cases (λ t. Bounded t.state) c e room (run_bounded r)
+      (λ k some w. end_bounded c (end_port c e) (handed_out (port_of c (end_port c e))) (run_bounded r)
+      (handed_within c.tick c.tick (port_of c (end_port c e)) ((run_bounded r).ports (end_port c e))))
   run_bounded (release {c = c} m e k room r) =
-      unless_bounded (release_refusal M c e k room) c (released_at M c e k) (run_bounded r)
+      unless (λ t. Bounded t.state) (release_refusal M c e k room) c (released_at M c e k) (run_bounded r)
       (λ z. end_bounded c (end_port c e) (released (port_of c (end_port c e)) k) (run_bounded r)
       (released_within c.tick c.tick (port_of c (end_port c e)) ((run_bounded r).ports (end_port c e)) k))
   run_bounded (drain r) = run_bounded r
@@ -427,29 +388,24 @@ module _ {B : Type 0} (M : BankCalls B) (law : (b : B) → LawfulBank M b) where
   unless_ticks : (r : Option Refusal) (c : Chain B) (t : Turn (Chain B)) (l : Log) → c.tick ≡ ticks l
       → (r ≡ None → t.state.tick ≡ ticks l + ticks t.events)
       → (unless_refused r c t).state.tick ≡ ticks (l ++ (unless_refused r c t).events)
-  unless_ticks None c t l h f = f refl ∙ sym (total-append tick_in l t.events)
-  unless_ticks (Some e) c t l h f = h ∙ ap ticks (sym (append-nil l))
-
-  collect_ticks : (c : Chain B) (e : End) (r : Result Frame Refusal) (l : Log) → c.tick ≡ ticks l
-      → (collects_by M c e r).state.tick ≡ ticks (l ++ (collects_by M c e r).events)
-  collect_ticks c e (Ok f) l h = omega (arith, h, total-append tick_in l (collects_by M c e (Ok f)).events)
-  collect_ticks c e (Err r) l h = h ∙ ap ticks (sym (append-nil l))
-
-  login_tick : (o : Option Refusal) (c : Chain B) (k x y n : ℕ)
-      → (unless_refused o c (no_act (logs_in M c k x y n))).state.tick ≡ c.tick
-  login_tick None c k x y n = refl
-  login_tick (Some e) c k x y n = refl
+  unless_ticks r c t l h f =
+      unless (λ t. t.state.tick ≡ ticks (l ++ t.events)) r c t (h ∙ ap ticks (sym (append-nil l)))
+      (λ e. f e ∙ sym (total-append tick_in l t.events))
 
   pub run_ticks : {b : B} {ph : Phase} {c : Chain B} {l : Log} → Run M b ph c l → c.tick ≡ ticks l
   run_ticks new = refl
-  run_ticks (login {c = c} k x y m n r) = login_tick (login_refusal M c k x y m n) c k x y n ∙ run_ticks r
+  run_ticks (login {c = c} k x y m n r) =
+      unless (λ t. t.state.tick ≡ c.tick) (login_refusal M c k x y m n) c (no_act (logs_in M c k x y n)) refl (λ e. refl)
+      ∙ run_ticks r
   run_ticks (start r) = run_ticks r
   run_ticks (step {c = c} {l = l} m room r) =
       unless_ticks (step_refusal M c room) c (stepped M c) l (run_ticks r)
       (λ z. omega (arith, run_ticks r, step_ticks M c, stepped_tick M c))
   run_ticks (inject {c = c} {l = l} e room r) =
       unless_ticks (inject_refusal M c e room) c (injected M c e) l (run_ticks r) (λ z. omega (arith, run_ticks r))
-  run_ticks (collect {c = c} {l = l} m e room r) = collect_ticks c e (collectable M c e room) l (run_ticks r)
+  run_ticks (collect {c = c} {l = l} m e room r) =
+      collect_cases (λ t. t.state.tick ≡ ticks (l ++ t.events)) c e room (run_ticks r ∙ ap ticks (sym (append-nil l)))
+      (λ k some w. omega (arith, run_ticks r, total-append tick_in l (collects_by M c e (Ok k)).events))
   run_ticks (release {c = c} {l = l} m e k room r) =
       unless_ticks (release_refusal M c e k room) c (released_at M c e k) l (run_ticks r)
       (λ z. omega (arith, run_ticks r))

@@ -1,6 +1,7 @@
 -- What a step adds to a log: one tick, and no more bytes than it asks for.
-use Rattle.std.proofs.Common.{◌≡◌, ℕ, zero, suc, ◌+◌, ◌*◌, ◌≤◌, Bool, true, false, cond, eqb, [], ◌∷◌, ◌++◌, length}
-use Rattle.std.proofs.Common.{Some, None, Option, refl, ap, ◌∙◌, suc-mul, arith, length-append}
+use Rattle.std.proofs.Common.{◌≡◌, ℕ, zero, suc, ◌+◌, ◌*◌, ◌≤◌, eqb, [], ◌∷◌, ◌++◌, length}
+use Rattle.std.proofs.Common.{Some, None, Option, refl, suc-mul, arith}
+use Rattle.std.proofs.lemmas.Bool.{cond_both}
 use Rattle.symbol.specs.declared.Item.{Item}
 use Rattle.symbol.specs.declared.Note.{Note}
 use Rattle.symbol.specs.declared.Note.TheVariants.{Sound, Lost}
@@ -19,6 +20,7 @@ use Rattle.model.specs.Chain.{takes_item, takes, sent, sends_symbol, sends, tick
 use Rattle.model.specs.Run.{Log}
 use Rattle.model.specs.Figures.{total, tick_in, ticks}
 use Rattle.model.specs.Sizes.{CallsFit}
+use Rattle.model.proofs.Told.{length_joined}
 
 pub total-append : (f : Event → ℕ) (es fs : Log) → total f (es ++ fs) ≡ total f es + total f fs
 total-append f [] fs = omega arith
@@ -27,10 +29,6 @@ total-append f (e ∷ es) fs = omega (arith, total-append f es fs)
 -- the bytes of a record
 abbrev size : Event → ℕ
 size e = length (encode e)
-
-pub bytes_are : (es : Log) → length (encode_all es) ≡ total size es
-bytes_are [] = refl
-bytes_are (e ∷ es) = length-append (encode e) (encode_all es) ∙ ap (λ (z : ℕ). size e + z) (bytes_are es)
 
 -- what is said of the records of one act: so many bytes at most, and no tick
 pub record Small (most : ℕ) (es : Log) : Type 0 where
@@ -41,28 +39,20 @@ taken_small : (p x : ℕ) (v : Note) (y : Symbol) → Small 10 (receive_events p
 taken_small p x Lost (symbol.Frame f) = omega arith
 taken_small p x Lost symbol.RRdy = omega arith
 taken_small p x Lost (symbol.Mark m) = omega arith
-taken_small p x Sound (symbol.Frame f) = go (eqb x 0)
-  where
-    go : (t : Bool) → Small 10 (event.Item Got p (symbol.Frame f) ∷ cond t [] [])
-    go true = omega arith
-    go false = omega arith
-taken_small p x Sound symbol.RRdy = go (eqb x 0)
-  where
-    go : (t : Bool) → Small 10 (event.Item Got p symbol.RRdy ∷ cond t [] [])
-    go true = omega arith
-    go false = omega arith
-taken_small p x Sound (symbol.Mark m) = go (eqb x 0)
-  where
-    go : (t : Bool) → Small 10 (event.Item Got p (symbol.Mark m) ∷ cond t [] (event.MadeGood p m x ∷ []))
-    go true = omega arith
-    go false = omega arith
+taken_small p x Sound (symbol.Frame f) =
+    cond_both (eqb x 0) [] [] (λ (l : Log). Small 10 (event.Item Got p (symbol.Frame f) ∷ l)) (λ e. omega arith)
+    (λ e. omega arith)
+taken_small p x Sound symbol.RRdy =
+    cond_both (eqb x 0) [] [] (λ (l : Log). Small 10 (event.Item Got p symbol.RRdy ∷ l)) (λ e. omega arith)
+    (λ e. omega arith)
+taken_small p x Sound (symbol.Mark m) =
+    cond_both (eqb x 0) [] (event.MadeGood p m x ∷ []) (λ (l : Log). Small 10 (event.Item Got p (symbol.Mark m) ∷ l))
+    (λ e. omega arith) (λ e. omega arith)
 
 put_small : (links p : ℕ) (y : Symbol) → Small 15 (event.Item Put p y ∷ freed_events links p y)
-put_small links p (symbol.Frame f) = go (is_end links p)
-  where
-    go : (t : Bool) → Small 15 (event.Item Put p (symbol.Frame f) ∷ cond t [] (event.Frame Freed (behind p) f ∷ []))
-    go true = omega arith
-    go false = omega arith
+put_small links p (symbol.Frame f) =
+    cond_both (is_end links p) [] (event.Frame Freed (behind p) f ∷ [])
+    (λ (l : Log). Small 15 (event.Item Put p (symbol.Frame f) ∷ l)) (λ e. omega arith) (λ e. omega arith)
 put_small links p symbol.RRdy = omega arith
 put_small links p (symbol.Mark m) = omega arith
 
@@ -122,7 +112,7 @@ module _ {B : Type 0} (M : BankCalls B) where
     step_fits =
         omega (
           arith,
-          bytes_are (stepped M c).events,
+          length_joined encode (stepped M c).events,
           parts size,
           (each_small 10 (takes M) takes_small after_tick
               (2 * c.links)).bytes,

@@ -1,6 +1,8 @@
 -- The account of a port has the figures of its log.
 use Rattle.std.proofs.Common.{◌≡◌, ℕ, ◌+◌, List, [], ◌∷◌, ◌++◌, length, sym, refl, ap, ◌∙◌, append_assoc, append-nil}
-use Rattle.std.proofs.Common.{arith, length-append}
+use Rattle.std.proofs.Common.{arith}
+use Rattle.std.proofs.lemmas.List.Concat.{length-flat_map}
+use Rattle.std.proofs.lemmas.List.Recursion.{is_sum_by}
 use Rattle.std.specs.List.{flat_map}
 use Rattle.symbol.specs.declared.Frame.{Frame}
 use Rattle.symbol.specs.declared.Symbol.{Symbol}
@@ -44,15 +46,21 @@ how_many_joined k g [] = refl
 how_many_joined k g (e ∷ es) = how_many-append k (g e) (flat_map g es)
     ∙ ap (λ (z : ℕ). how_many k (g e) + z) (how_many_joined k g es)
 
-length_joined : (g : Event → List Frame) (es : Log) → length (flat_map g es) ≡ total (λ e. length (g e)) es
-length_joined g [] = refl
-length_joined g (e ∷ es) = length-append (g e) (flat_map g es) ∙ ap (λ (z : ℕ). length (g e) + z) (length_joined g es)
+pub length_joined : {X : Type 0} (g : Event → List X) (es : Log)
+    → length (flat_map g es) ≡ total (λ e. length (g e)) es
+length_joined g es = length-flat_map g es ∙ sym (is_sum_by (total (λ e. length (g e))) _ refl (λ _ _. refl) es)
 
 pub frames-append : (xs ys : List Symbol) → frames_among (xs ++ ys) ≡ frames_among xs ++ frames_among ys
 frames-append [] ys = refl
 frames-append (symbol.Frame f ∷ xs) ys = ap {B = List Frame} (λ z. f ∷ z) (frames-append xs ys)
 frames-append (symbol.RRdy ∷ xs) ys = frames-append xs ys
 frames-append (symbol.Mark m ∷ xs) ys = frames-append xs ys
+
+-- a symbol that is no frame adds none
+pub frames_same : (ss : List Symbol) (y : Symbol) → frames_among (y ∷ []) ≡ []
+    → frames_among (ss ++ (y ∷ [])) ≡ frames_among ss
+frames_same ss y e = frames-append ss (y ∷ []) ∙ ap {B = List Frame} (λ z. frames_among ss ++ z) e
+    ∙ append-nil (frames_among ss)
 
 frames_joined : (g : Event → List Symbol) (es : Log)
     → frames_among (flat_map g es) ≡ flat_map (λ e. frames_among (g e)) es

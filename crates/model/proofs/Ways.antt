@@ -1,6 +1,7 @@
 -- The frames of a way: none is gained or gone, and none passes another.
 use Rattle.std.proofs.Common.{◌≡◌, ℕ, zero, suc, ◌+◌, ◌-◌, ◌*◌, ◌<◌, ◌≤◌, Bool, cond, eqb, ◌≢◌, ◌⊎◌, List, [], ◌∷◌}
-use Rattle.std.proofs.Common.{◌++◌, sym, refl, ap, ◌∙◌, subst, inl, inr, append-nil, arith}
+use Rattle.std.proofs.Common.{◌++◌, sym, refl, ap, ◌∙◌, subst, inl, inr, arith}
+use Rattle.std.proofs.lemmas.Bool.Decides.{nat_tests}
 use Rattle.std.proofs.lemmas.Bool.{eq-eqb, ne_eqb, cases_eq}
 use Rattle.symbol.specs.declared.Frame.{Frame}
 use Rattle.symbol.specs.declared.Symbol.{Symbol}
@@ -17,17 +18,13 @@ use Rattle.model.specs.Figures.{lost_frames, injected, collected, records, frame
 use Rattle.model.specs.OnePlace.{numbers, up_to, times, InOrderOf, nothing, left_out, next, over_links, hop, taker}
 use Rattle.model.specs.OnePlace.{at_hop, places}
 use Rattle.model.proofs.Accounts.{Account, noted, noted_all, account, no_account}
-use Rattle.model.proofs.Told.{frames-append, told}
+use Rattle.model.proofs.Told.{frames-append, frames_same, told}
 use Rattle.model.proofs.Places.{facing_is, behind_is}
 use Rattle.model.proofs.Kept.{Invariant}
 
 times-append : (k : ℕ) (xs ys : List Frame) → times k (xs ++ ys) ≡ times k xs + times k ys
 times-append k [] ys = omega arith
 times-append k (x ∷ xs) ys = omega (arith, times-append k xs ys)
-
-in_order_all : (xs : List Frame) → InOrderOf xs xs
-in_order_all [] = nothing
-in_order_all (x ∷ xs) = next (in_order_all xs)
 
 in_order_none : (ys : List Frame) → InOrderOf [] ys
 in_order_none [] = nothing
@@ -61,14 +58,9 @@ pub record Taken (taken : List Symbol) (got lost : List Frame) : Type 0 where
 module _ (taken : List Symbol) (got lost : List Frame) (h : Taken taken got lost) where
   no_frame : (y : Symbol) → frames_among (y ∷ []) ≡ [] → Taken (taken ++ (y ∷ [])) got lost
   no_frame y e = record {
-    each = λ k. ap (times k) same ∙ h.each k;
-    in_order = subst (InOrderOf got) (sym same) h.in_order;
+    each = λ k. ap (times k) (frames_same taken y e) ∙ h.each k;
+    in_order = subst (InOrderOf got) (sym (frames_same taken y e)) h.in_order;
   }
-    where
-      same : frames_among (taken ++ (y ∷ [])) ≡ frames_among taken
-      same =
-          frames-append taken (y ∷ []) ∙ ap {B = List Frame} (λ z. frames_among taken ++ z) e
-          ∙ append-nil (frames_among taken)
 
   more_taken : (f : Frame) (k : ℕ)
       → times k (frames_among (taken ++ (symbol.Frame f ∷ []))) ≡ times k got + times k lost + times k (f ∷ [])
@@ -129,40 +121,12 @@ how_often-append k (x ∷ xs) ys = omega (arith, how_often-append k xs ys)
 -- each number from 1 to n is once among them
 pub up_to_out : (n k : ℕ) → (k ≡ 0) ⊎ (n < k) → how_often k (up_to n) ≡ 0
 up_to_out zero k h = refl
-up_to_out (suc n) k h =
-    omega (
-      arith,
-      how_often-append k (up_to n) (suc n ∷ []),
-      up_to_out n k (less h),
-      ap {B = ℕ}
-          (λ (t : Bool). cond t 1 0) (ne_eqb k (suc n) (λ e. omega (arith, h))),
-    )
-  where
-    less : (k ≡ 0) ⊎ (suc n < k) → (k ≡ 0) ⊎ (n < k)
-    less (inl e) = inl e
-    less (inr e) = inr (omega arith)
+up_to_out (suc n) k h = grind (arith, nat_tests, how_often-append k (up_to n) (suc n ∷ []), up_to_out n k)
 
 pub up_to_in : (n k : ℕ) → 0 < k → k ≤ n → how_often k (up_to n) ≡ 1
 up_to_in zero k h e = absurd (omega arith)
-up_to_in (suc n) k h e = go (cases_eq k (suc n)) (λ z. up_to_in n k h z)
-  where
-    go : (k ≡ suc n) ⊎ (k ≡ suc n → ⊥) → (k ≤ n → how_often k (up_to n) ≡ 1) → how_often k (up_to n ++ (suc n ∷ [])) ≡ 1
-    go (inl q) r =
-        omega (
-          arith,
-          how_often-append k (up_to n) (suc n ∷ []),
-          up_to_out n k (inr (omega arith)),
-          ap {B = ℕ}
-              (λ (t : Bool). cond t 1 0) (eq-eqb k (suc n) q),
-        )
-    go (inr q) r =
-        omega (
-          arith,
-          how_often-append k (up_to n) (suc n ∷ []),
-          r (let m : k ≢ suc n = q in omega arith),
-          ap {B = ℕ}
-              (λ (t : Bool). cond t 1 0) (ne_eqb k (suc n) q),
-        )
+up_to_in (suc n) k h e =
+    grind (arith, nat_tests, how_often-append k (up_to n) (suc n ∷ []), up_to_in n k, up_to_out n k)
 
 module _ {B : Type 0} (M : BankCalls B) (c : Chain B) where
   hop_first : (e : End) → hop c e 0 ≡ end_port c e

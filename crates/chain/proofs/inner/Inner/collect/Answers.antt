@@ -1,15 +1,8 @@
-use Rattle.std.proofs.Common.{refl, ap, ◌∙◌, arith, rules}
-use Rattle.eventlog.specs.Sheet.{room}
-use Rattle.model.specs.Chain.{collectable}
-use Rattle.chain.specs.View.{chain_of}
+use Rattle.std.proofs.Common.{refl, arith, rules}
 use Rattle.chain.proofs.Called.{made_collect}
 use Rattle.chain.proofs.inner.Inner.collect.Goals as goal
 
 pub returns : goal.returns
 returns g c =
-    let M = g.B.Bank.calls in
-    let self = chain_of g.B.Bank.model c.args.self.now in
-    let sheet = c.args.sheet.now in
-    made_collect M self c.args.end sheet (collectable M self c.args.end (room sheet)) c.in_ok-frame.frame _ _ _
-    (c.in_ok-frame.ensures.value ∙ ap (collectable M self c.args.end) c.room.ensures)
+    made_collect g.B.Bank.calls _ _ _ _ _ _ _ _ (rw c.room.ensures at c.in_ok-frame.ensures.value)
     (omega (arith, c.in_ok-frame.ensures.fits, c.room.ensures)) (search rules) (search rules) refl

@@ -1,24 +1,18 @@
 use Rattle.std.proofs.Common.{ap, ◌∙◌, arith}
 use Rattle.model.specs.Chain.{sends}
-use Rattle.model.proofs.Links.{each_links, sends_links}
+use Rattle.model.proofs.Links.{each_still, sends_still}
 use Rattle.chain.specs.View.{chain_of}
-use Rattle.chain.proofs.Acts.{acted_none, each_more}
+use Rattle.chain.proofs.Acts.{each_more}
 use Rattle.chain.proofs.inner.Inner.send_all.Goals as goal
-
-pub loop-number-init : goal.loop-number-init
-loop-number-init g c = acted_none (chain_of g.B.Bank.model c.args.self.now) c.args.sheet.now
 
 pub loop-number-preserved : goal.loop-number-preserved
 loop-number-preserved g c =
-    let view = chain_of g.B.Bank.model in
-    each_more (sends g.B.Bank.calls) (view c.args.self.now) (view c.loop-number.self) (view c.send.new.self)
-    c.args.sheet.now c.loop-number.sheet c.send.new.sheet c.loop-number.number
-    c.loop-number.invariant c.send.ensures
+    each_more (sends g.B.Bank.calls) _ _ _ _ _ _ c.loop-number.number c.loop-number.invariant c.send.ensures
 
 pub send-requires : goal.send-requires
 send-requires g c =
     let M = g.B.Bank.calls in
     let start = chain_of g.B.Bank.model c.args.self.now in
     let links = ap (λ x. x.links) c.loop-number.invariant.state
-    ∙ each_links (sends M) (sends_links M) start c.loop-number.number in
+    ∙ (each_still (sends M) (sends_still M) start c.loop-number.number).links in
     omega (arith, links)

@@ -1,9 +1,6 @@
 use Rattle.std.proofs.Common.{refl}
 use Rattle.model.proofs.Laws.{drain_continues}
-use Rattle.chain.specs.View.{chain_of}
 use Rattle.chain.proofs.running.Chain+B+Running.drain.Goals as goal
 
-pub returns : goal.returns
-returns g c =
-    let self = chain_of g.B.Bank.model c.args.self.inner in
-    record { state = refl; run = drain_continues g.B.Bank.calls g.met.B.Bank.lawful self self refl }
+pub returns-clause-run : goal.returns-clause-run
+returns-clause-run g c = drain_continues g.B.Bank.calls g.met.B.Bank.lawful _ _ refl
