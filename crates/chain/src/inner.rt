@@ -7,6 +7,7 @@ pub mod ends;
 pub mod step;
 
 // A chain of no links has a bank all the same.
+// Contracts read it by specs/View.antt: the Value of a Model may not use what a bound knows, as a bank's own model.
 pub struct Inner<B> {
     pub(crate) bank: B,
     pub(crate) links: u8,

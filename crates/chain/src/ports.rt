@@ -13,7 +13,7 @@ use port::Port;
 use port::figures::Figures;
 use symbol::{Frame, Item, Symbol};
 
-// A chain has at most eight links.
+// A chain has at most eight links, and the bench uses no heap.
 const PORTS: usize = 16;
 
 #[derive(Drop)]

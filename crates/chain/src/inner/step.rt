@@ -86,7 +86,8 @@ impl<B: Bank> Inner<B> {
         self.draw(p, symbol, sheet);
     }
 
-    // Each port in rising order takes.
+    // Each port in rising order takes. One loop for this and the next would take a closure over chain and sheet, whose
+    // contract is longer than the two.
     fn take_all(&mut self, sheet: &mut Sheet<'_>)
         ensures { Acted (each_port (takes B.Bank.calls) (2 * self.old.links) (chain_of B.Bank.model self.old))
             sheet.old (chain_of B.Bank.model self.new) sheet.new }
