@@ -693,14 +693,14 @@ module _ {B : Type 0} (M : BankCalls B) (law : (b : B) → LawfulBank M b) where
         (end_act x (Inner c x) (port_of c x) (account x l) k (tail (port_of c x).outbox.frames) (outer c x e)
         (first_is (port_of c x).outbox.frames k src)))
     frame_kept k false may e src =
-        let n0 = eqb-false x 0 (or_parts (eqb x 0) (eqb x (2 * c.links - 1)) e).0 in
+        let n : (x ≢ 0) × (x ≢ 2 * c.links - 1) = grind (arith, nat_tests) in
         let queue = first_is (port_of c (behind x)).buffers.waiting k src in
         subst
         (λ (ps : List Port). Invariant M (with_ports (put_at (symbol.Frame k)) ps)
         (l ++ (event.Item Put x (symbol.Frame k) ∷ event.Frame Freed (behind x) k ∷ []))) (sym
-        (inner_ports (symbol.Frame k) k (tail (port_of c (behind x)).buffers.waiting) (behind_other x n0) queue))
-        (inner_put_kept c l x (facing x) (behind x) k (tail (port_of c (behind x)).buffers.waiting) h lt refl n0
-        (eqb-false x (2 * c.links - 1) (or_parts (eqb x 0) (eqb x (2 * c.links - 1)) e).1) refl space may queue)
+        (inner_ports (symbol.Frame k) k (tail (port_of c (behind x)).buffers.waiting) (behind_other x n.0) queue))
+        (inner_put_kept c l x (facing x) (behind x) k (tail (port_of c (behind x)).buffers.waiting) h lt refl n.0
+        n.1 refl space may queue)
 
   -- a port that sends nothing
   idle_kept : (c : Chain B) (l : Log) (x : ℕ) → Invariant M c l → Invariant M (with_port c x (port_of c x)) (l ++ [])

@@ -312,12 +312,7 @@ module _ {B : Type 0} (M : BankCalls B) where
         → AllByRecursion WellFormed (freed_events links p y)
     freed_well links p (symbol.Frame f) few lt z =
         cond_both (is_end links p) [] (event.Frame Freed (behind p) f ∷ []) (AllByRecursion WellFormed) (λ e. tt)
-        (λ e. let q = or_parts (eqb p 0) (eqb p (2 * links - 1)) e in (
-          well_frame Freed (behind p) f
-              (omega
-              (arith, few, behind_below links p lt (eqb-false p 0 q.0) (eqb-false p (2 * links - 1) q.1))) z,
-          tt,
-        ))
+        (λ e. (well_frame Freed (behind p) f (grind (arith, nat_tests, behind_below links p lt)) z, tt))
     freed_well links p symbol.RRdy few lt z = tt
     freed_well links p (symbol.Mark m) few lt z = tt
 

@@ -1,7 +1,8 @@
 -- The records of one port in a log that grows.
 use Rattle.std.proofs.Common.{◌≡◌, ℕ, ◌<◌, Bool, true, false, cond, eqb, [], ◌∷◌, ◌++◌, sym, refl, ap, ◌∙◌}
-use Rattle.std.proofs.Common.{subst, append_assoc, append-nil, rules}
+use Rattle.std.proofs.Common.{subst, append_assoc, append-nil, rules, arith}
 use mathlib.Core.Path.{fun_ext}
+use Rattle.std.proofs.lemmas.Bool.Decides.{nat_tests}
 use Rattle.std.specs.List.{AllByRecursion}
 use Rattle.symbol.specs.declared.Frame.{Frame}
 use Rattle.symbol.specs.declared.Mark.{Mark as MarkIs}
@@ -39,12 +40,11 @@ At p t es = AllByRecursion (λ (e : Event). is_at p e ≡ t) es
 
 of_port_own : (p : ℕ) (es : Log) → At p true es → records p es ≡ es
 of_port_own p [] h = refl
-of_port_own p (e ∷ es) h = ap {B = Log} (λ z. cond z (e ∷ []) [] ++ records p es) h.0
-    ∙ ap {B = Log} (λ z. e ∷ z) (of_port_own p es h.1)
+of_port_own p (e ∷ es) h = grind (arith, nat_tests, of_port_own p es h.1, h.0)
 
 of_port_off : (p : ℕ) (es : Log) → At p false es → records p es ≡ []
 of_port_off p [] h = refl
-of_port_off p (e ∷ es) h = ap {B = Log} (λ z. cond z (e ∷ []) [] ++ records p es) h.0 ∙ of_port_off p es h.1
+of_port_off p (e ∷ es) h = grind (arith, nat_tests, of_port_off p es h.1, h.0)
 
 pub account_own : (p : ℕ) (l es : Log) → At p true es → account p (l ++ es) ≡ noted_all (account p l) es
 account_own p l es h = account-append p l es ∙ ap (noted_all (account p l)) (of_port_own p es h)
