@@ -1,6 +1,6 @@
 -- No figure of a run comes near the largest that its field holds: in a step each port takes one item and sends one
 -- symbol at most.
-use Rattle.std.proofs.Common.{◌≡◌, ℕ, zero, suc, ◌+◌, ◌*◌, ◌<◌, ◌≤◌, eqb, ◌≢◌, ◌⊎◌, List, []}
+use Rattle.std.proofs.Common.{◌≡◌, ℕ, zero, suc, ◌+◌, ◌*◌, ◌<◌, ◌≤◌, eqb, ◌≢◌, ◌⊎◌, ⊎_elim, List, []}
 use Rattle.std.proofs.Common.{◌∷◌, length, get_or, set, Some, None, Option, sym, refl, ap, ◌∙◌, subst, inl, inr, arith}
 use Rattle.std.proofs.Common.{length-append, get_or-set_other}
 use Rattle.std.proofs.lemmas.Bool.{cases_eq, cases_lt, cond_both}
@@ -132,30 +132,22 @@ module _ {B : Type 0} (P Q : Port → Type 0) (f : Chain B → ℕ → Turn (Cha
   each_turn : (c : Chain B) (k : ℕ) → ((q : ℕ) → P (port_of c q)) → (q : ℕ)
       → (q < k → Q (port_of (each_port f k c).state q)) × (k ≤ q → P (port_of (each_port f k c).state q))
   each_turn c zero h q = (λ z. absurd (omega arith), λ z. h q)
-  each_turn c (suc k) h q = go (cases_eq q k) (each_turn c k h q)
-    where
-      go : (q ≡ k) ⊎ (q ≡ k → ⊥)
-          → (q < k → Q (port_of (each_port f k c).state q)) × (k ≤ q → P (port_of (each_port f k c).state q))
-          → (q < suc k → Q (port_of (f (each_port f k c).state k).state q)) ×
-          (suc k ≤ q → P (port_of (f (each_port f k c).state k).state q))
-      go (inl e) r = (
-        λ z. subst (λ (v : ℕ). Q (port_of (f (each_port f k c).state k).state v)) (sym e)
-            (own (each_port f k c).state k
-            (subst (λ (v : ℕ). P (port_of (each_port f k c).state v)) e (r.1 (omega (arith, e))))),
+  each_turn c (suc k) h q =
+      let r = each_turn c k h q in
+      let d = (each_port f k c).state in
+      ⊎_elim
+      (λ (e : q ≡ k). (
+        λ z. subst (λ (v : ℕ). Q (port_of (f d k).state v)) (sym e)
+            (own d k (subst (λ (v : ℕ). P (port_of d v)) e (r.1 (omega (arith, e))))),
         λ z. absurd (omega (arith, e)),
-      )
-      go (inr n) r = let m : q ≢ k = n in (
-        λ z. off-after (each_port f k c).state k q n (r.0 (omega (arith, m))),
-        λ z. off-before
-            (each_port f k c).state k q n (r.1 (omega arith)),
-      )
+      ))
+      (λ (n : q ≢ k). (λ z. off-after d k q n (r.0 (omega (arith, n))), λ z. off-before d k q n (r.1 (omega arith))))
+      (cases_eq q k)
 
   pub each_all : (c : Chain B) (k : ℕ) → ((q : ℕ) → P (port_of c q)) → (q : ℕ) → Q (port_of (each_port f k c).state q)
-  each_all c k h q = go (cases_lt q k)
-    where
-      go : (q < k) ⊎ (k ≤ q) → Q (port_of (each_port f k c).state q)
-      go (inl z) = (each_turn c k h q).0 z
-      go (inr z) = weak (port_of (each_port f k c).state q) ((each_turn c k h q).1 z)
+  each_all c k h q =
+      ⊎_elim (λ (z : q < k). (each_turn c k h q).0 z)
+      (λ (z : k ≤ q). weak (port_of (each_port f k c).state q) ((each_turn c k h q).1 z)) (cases_lt q k)
 
 module _ {B : Type 0} (M : BankCalls B) where
   takes_own : (m n : ℕ) (c : Chain B) (p : ℕ) → Within m n (port_of c p)

@@ -1,6 +1,6 @@
 -- Every run, from the cabling on.
 use Rattle.std.proofs.Common.{◌≡◌, ℕ, zero, suc, ◌+◌, ◌*◌, ◌/◌, ◌%◌, ◌^◌, ◌<◌, ◌≤◌, Bool, true, false, cond, ◌||◌}
-use Rattle.std.proofs.Common.{eqb, ltb, leb, ◌≢◌, ◌⊎◌, List, [], ◌∷◌, ◌++◌, length, get_or, set, replicate, Some, None}
+use Rattle.std.proofs.Common.{eqb, ltb, leb, ◌≢◌, ◌⊎◌, ⊎_elim, List, [], ◌∷◌, ◌++◌, length, get_or, set, replicate, Some, None}
 use Rattle.std.proofs.Common.{Ok, Err, Option, Result, sym, refl, ap, ◌∙◌, subst, inl, inr, append-nil, le_refl, arith}
 use Rattle.std.proofs.Common.{length-set, pow_pos}
 use native.Mathlib.Nat.{zero-mod}
@@ -284,17 +284,15 @@ module _ {B : Type 0} (M : BankCalls B) (law : (b : B) → LawfulBank M b) where
 
   release_after : (c : Chain B) (l : Log) (e : End) (k room : ℕ) → Invariant M c l
       → release_refusal M c e k room ≡ None → Kept M l (released_at M c e k)
-  release_after c l e k room h z = go (cases_eq c.links 0)
-    where
-      go : (c.links ≡ 0) ⊎ (c.links ≡ 0 → ⊥) → Kept M l (released_at M c e k)
-      go (inl w) = no_links (released_at M c e k).state (l ++ (released_at M c e k).events) w
-          (rooms_kept (λ p. (port_of c p).buffers.all) (λ p. (port_of (released_at M c e k).state p).buffers.all) l
-          (event.Frame Freed (end_port c e) (record { number = k }) ∷ [])
-          (λ p. same_all c.ports (end_port c e) p (released (port_of c (end_port c e)) k)
-          (released_all (port_of c (end_port c e)) k)) h.room (tt, tt))
-      go (inr n) =
-          release_kept M law c l e k h (let m : c.links ≢ 0 = n in omega arith)
-          (released_out c e k room z)
+  release_after c l e k room h z =
+      ⊎_elim
+      (λ (w : c.links ≡ 0). no_links (released_at M c e k).state (l ++ (released_at M c e k).events) w
+      (rooms_kept (λ p. (port_of c p).buffers.all) (λ p. (port_of (released_at M c e k).state p).buffers.all) l
+      (event.Frame Freed (end_port c e) (record { number = k }) ∷ [])
+      (λ p. same_all c.ports (end_port c e) p (released (port_of c (end_port c e)) k)
+      (released_all (port_of c (end_port c e)) k)) h.room (tt, tt)))
+      (λ (n : c.links ≢ 0). release_kept M law c l e k h (omega (arith, n)) (released_out c e k room z))
+      (cases_eq c.links 0)
 
   -- what a login that is not refused has asked
   pub login_fits : (c : Chain B) (k x y m n : ℕ) → login_refusal M c k x y m n ≡ None
