@@ -31,10 +31,7 @@ module _ (ts : List Passage) (x y : Stretches) (h : CutInto ts x y) (s : Symbol)
       (and_one y (role RRdys s) f)
   cut_more f =
       let one : List Passage = record { symbol = s; fate = f } ∷ [] in
-      record {
-        frames = cut-append Frames nothing_put ts one ∙ ap (λ (z : Stretches). cut Frames z one) h.frames;
-        rrdys = cut-append RRdys nothing_put ts one ∙ ap (λ (z : Stretches). cut RRdys z one) h.rrdys;
-      }
+      record { frames = cc (cut-append Frames nothing_put ts one); rrdys = cc (cut-append RRdys nothing_put ts one) }
 
   -- and a made good record follows
   pub cut_good : (k : ℕ)
@@ -81,7 +78,5 @@ pub put_stretches : (k : Stream) (ps : List Symbol) (ts : List Passage) (ss : Li
     → ps ≡ taken_symbols ts ++ ss → cut k nothing_put ts ≡ x → SameLosses x (cut k nothing_put (paired ps ts))
 put_stretches k ps ts ss x e f =
     subst (SameLosses x)
-    (sym
-    (ap (λ (z : List Symbol). cut k nothing_put (paired z ts)) e ∙ ap (cut k nothing_put) (paired_taken ts ss)
-    ∙ cut-append k nothing_put ts (all_under_way ss) ∙ ap (λ (z : Stretches). cut k z (all_under_way ss)) f))
+    (cc (paired_taken ts ss, cut-append k nothing_put ts (all_under_way ss)))
     (all_on_the_way k x x ss (record { ended = refl; lost = refl }))

@@ -1,6 +1,6 @@
 -- Every record of a run is well-formed, so its log reads back as its events.
 use Rattle.std.proofs.Common.{◌≡◌, ℕ, zero, suc, ◌+◌, ◌-◌, ◌*◌, ◌^◌, ◌<◌, ◌≤◌, Bool, true, false, cond, ◌&&◌, ◌||◌}
-use Rattle.std.proofs.Common.{eqb, ltb, ◌≢◌, ◌⊎◌, List, [], ◌∷◌, ◌++◌, Some, None, Option, sym, refl, subst, inl, inr}
+use Rattle.std.proofs.Common.{eqb, ltb, ◌≢◌, ⊎_elim, List, [], ◌∷◌, ◌++◌, Some, None, Option, sym, refl, subst, inl, inr}
 use Rattle.std.proofs.Common.{mod-lt, arith, pow_pos, pow_mono}
 use Rattle.std.proofs.ByRecursion.{All-append}
 use Rattle.std.proofs.lemmas.Bool.Decides.{nat_tests}
@@ -247,12 +247,11 @@ module _ {B : Type 0} (M : BankCalls B) where
   fine_bank c b p h here off = record {
     links = h.links;
     ports = h.ports;
-    channels = λ d z. go d z (cases_eq d p);
+    channels =
+        λ d z. ⊎_elim
+        (λ (q : d ≡ p). subst (λ (v : ℕ). FineSymbols (symbols (M.known b v).items)) (sym q) here)
+        (λ (n : d ≢ p). subst FineSymbols (sym (off d n)) (h.channels d z)) (cases_eq d p);
   }
-    where
-      go : (d : ℕ) → d < 2 * c.links → (d ≡ p) ⊎ (d ≡ p → ⊥) → FineSymbols (symbols (M.known b d).items)
-      go d z (inl q) = subst (λ (v : ℕ). FineSymbols (symbols (M.known b v).items)) (sym q) here
-      go d z (inr n) = subst FineSymbols (sym (off d n)) (h.channels d z)
 
   fine_then : (t : Turn (Chain B)) (f : Chain B → Turn (Chain B)) → FineTurn t → FineTurn (f t.state)
       → FineTurn (and_then t f)

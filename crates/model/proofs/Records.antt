@@ -47,7 +47,7 @@ of_port_off p [] h = refl
 of_port_off p (e ∷ es) h = grind (arith, nat_tests, of_port_off p es h.1, h.0)
 
 pub account_own : (p : ℕ) (l es : Log) → At p true es → account p (l ++ es) ≡ noted_all (account p l) es
-account_own p l es h = account-append p l es ∙ ap (noted_all (account p l)) (of_port_own p es h)
+account_own p l es h = cc (account-append p l es, of_port_own p es h)
 
 pub account_off : (p : ℕ) (l es : Log) → At p false es → account p (l ++ es) ≡ account p l
 account_off p l es h = account-append p l es ∙ ap (noted_all (account p l)) (of_port_off p es h)
@@ -68,14 +68,11 @@ receive_at p x t s Sound (symbol.Mark BbScR) h =
 
 pub account_skip : (p : ℕ) (l es : Log) (e : Event) → is_at p e ≡ false
     → account p (l ++ (e ∷ es)) ≡ account p (l ++ es)
-account_skip p l es e h = account-append p l (e ∷ es)
-    ∙ ap (λ (z : Bool). noted_all (account p l) (cond z (e ∷ []) [] ++ records p es)) h ∙ sym (account-append p l es)
+account_skip p l es e h = grind (arith, nat_tests, account-append p l (e ∷ es), account-append p l es)
 
 pub account_first : (p : ℕ) (l es : Log) (e : Event) → is_at p e ≡ true → At p false es
     → account p (l ++ (e ∷ es)) ≡ noted (account p l) e
-account_first p l es e h off = account-append p l (e ∷ es)
-    ∙ ap (λ (z : Bool). noted_all (account p l) (cond z (e ∷ []) [] ++ records p es)) h
-    ∙ ap (λ (z : Log). noted_all (account p l) (e ∷ z)) (of_port_off p es off)
+account_first p l es e h off = grind (arith, nat_tests, account-append p l (e ∷ es), of_port_off p es off)
 
 -- what a frame that is put and a freed buffer leave of an account
 pub record SameFrames (a a' : Account) : Type 0 where

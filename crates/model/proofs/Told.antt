@@ -79,9 +79,7 @@ adds_nothing : (t : Tally) → Adds t t 0 0 0 0
 adds_nothing t = omega arith
 
 put_adds : (r : Role) (t : Tally) → Adds t (one_put r t) (one_counted r + 0) 0 0 0
-put_adds counted t = omega arith
-put_adds mark t = omega arith
-put_adds other t = omega arith
+put_adds r t = grind arith
 
 got_adds : (r : Role) (t : Tally) → Adds t (one_got r t) 0 (one_counted r + 0) 0 0
 got_adds counted t = omega arith
@@ -109,20 +107,10 @@ tally_adds k t (event.Frame kind q f) = adds_nothing t
 tally_adds k t (event.MadeGood q m n) = good_adds (role k (symbol.Mark m)) n t
 
 freed_adds : (n : ℕ) (e : Event) → by_frame one_freed as_it_was as_it_was n e ≡ n + length (frame_in Freed e)
-freed_adds n (event.Tick t) = omega arith
-freed_adds n (event.Item kind q s) = omega arith
-freed_adds n (event.Frame Freed q f) = omega arith
-freed_adds n (event.Frame Injected q f) = omega arith
-freed_adds n (event.Frame Collected q f) = omega arith
-freed_adds n (event.MadeGood q m k) = omega arith
+freed_adds n e = grind arith
 
 puts_last : (ss : List Symbol) (e : Event) → by_item last as_it_was as_it_was ss e ≡ ss ++ symbol_in Put e
-puts_last ss (event.Tick t) = sym (append-nil ss)
-puts_last ss (event.Item Put q s) = refl
-puts_last ss (event.Item Got q s) = sym (append-nil ss)
-puts_last ss (event.Item Missed q s) = sym (append-nil ss)
-puts_last ss (event.Frame kind q f) = sym (append-nil ss)
-puts_last ss (event.MadeGood q m k) = sym (append-nil ss)
+puts_last ss e = grind (arith, append-nil {A = Symbol})
 
 frame_is_last : (fs : List Frame) (s : Symbol) → frame_last fs s ≡ fs ++ frames_among (s ∷ [])
 frame_is_last fs (symbol.Frame f) = refl
