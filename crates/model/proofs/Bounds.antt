@@ -3,6 +3,7 @@
 use Rattle.std.proofs.Common.{◌≡◌, ℕ, zero, suc, ◌+◌, ◌*◌, ◌<◌, ◌≤◌, eqb, ◌≢◌, ◌⊎◌, ⊎_elim, List, []}
 use Rattle.std.proofs.Common.{◌∷◌, length, get_or, set, Some, None, Option, sym, refl, ap, ◌∙◌, subst, inl, inr, arith}
 use Rattle.std.proofs.Common.{length-append, get_or-set_other}
+use Rattle.std.proofs.lemmas.Bool.Decides.{nat_tests}
 use Rattle.std.proofs.lemmas.Bool.{cases_eq, cases_lt, cond_both}
 use Rattle.ring.specs.Queue.{tail}
 use Rattle.symbol.specs.declared.Frame.{Frame}
@@ -48,31 +49,17 @@ pub new_port_within : (m n : ℕ) → Within m n new_port
 new_port_within m n = fresh_within m n 1 1 0 (omega arith) (omega arith) (omega arith)
 
 tail_most : (ks : List Frame) → (length ks ≤ length (tail ks) + 1) × (length (tail ks) ≤ length ks)
-tail_most [] = (omega arith, omega arith)
-tail_most (k ∷ ks) = (omega arith, omega arith)
+tail_most ks = grind arith
 
 module _ (m n : ℕ) (s : Port) (h : Within m n s) where
   taken_later : Within (m + 1) n s
   taken_later = later s (omega arith) (omega arith) h
 
   received_within : (v : Note) (y : Symbol) → Within (m + 1) n (received s v y)
-  received_within Lost (symbol.Frame k) = omega (arith, h)
-  received_within Lost symbol.RRdy = omega (arith, h)
-  received_within Lost (symbol.Mark y) = taken_later
-  received_within Sound (symbol.Frame k) =
-      cond_both (is_full s.buffers) _ _ (Within (m + 1) n) (λ e. taken_later)
-      (λ e. omega (arith, h, length-append s.buffers.waiting (k ∷ [])))
-  received_within Sound symbol.RRdy =
-      cond_both (eqb s.credit.used 0) _ _ (Within (m + 1) n) (λ e. taken_later) (λ e. omega (arith, h))
-  received_within Sound (symbol.Mark BbScS) = omega (arith, h)
-  received_within Sound (symbol.Mark BbScR) = omega (arith, h)
+  received_within v y = grind (arith, nat_tests, h, length-append s.buffers.waiting)
 
   sent_within : (o : Option Symbol) → Within m n (after_send s o)
-  sent_within None = h
-  sent_within (Some (symbol.Frame k)) = omega (arith, h)
-  sent_within (Some symbol.RRdy) = omega (arith, h)
-  sent_within (Some (symbol.Mark BbScS)) = omega (arith, h)
-  sent_within (Some (symbol.Mark BbScR)) = omega (arith, h)
+  sent_within o = grind (arith, h)
 
   unsent_within : Within m (n + 1) (unsent s)
   unsent_within = omega (arith, h, tail_most s.outbox.frames)

@@ -64,9 +64,7 @@ pub record SameLosses (x y : Stretches) : Type 0 where
   pub lost : lost_among y.still_open ≡ lost_among x.still_open
 
 one_under_way : (x y : Stretches) (r : Role) → SameLosses x y → SameLosses x (and_one y r UnderWay)
-one_under_way x y counted h = record { ended = h.ended; lost = omega (arith, h.lost) }
-one_under_way x y mark h = h
-one_under_way x y other h = h
+one_under_way x y r h = grind (arith, h)
 
 all_on_the_way : (k : Stream) (x y : Stretches) (ss : List Symbol) → SameLosses x y
     → SameLosses x (cut k y (all_under_way ss))

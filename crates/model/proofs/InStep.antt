@@ -51,9 +51,7 @@ marks-snoc m x (y ∷ ys) r h a =
 
 -- marks look at the count modulo m only
 at_mark_mod : (m x y : ℕ) (r : Role) → x % m ≡ y % m → AtMark r m x → AtMark r m y
-at_mark_mod m x y counted e h = tt
-at_mark_mod m x y mark e h = sym e ∙ h
-at_mark_mod m x y other e h = tt
+at_mark_mod m x y r e h = grind arith
 
 add_mod_eq : (m x y k : ℕ) → x % m ≡ y % m → (x + k) % m ≡ (y + k) % m
 add_mod_eq m x y k e = sym (mod-add-mod x m k) ∙ ap (λ (z : ℕ). (z + k) % m) e ∙ mod-add-mod y m k

@@ -58,13 +58,7 @@ good_at p e t false h = (h, tt)
 
 -- what a port writes of an item it takes is its own
 pub receive_at : (p x : ℕ) (t : Bool) (s : Port) (v : Note) (y : Symbol) → eqb p x ≡ t → At p t (taken_events x s v y)
-receive_at p x t s Lost y h = (h, tt)
-receive_at p x t s Sound (symbol.Frame k) h = (h, tt)
-receive_at p x t s Sound symbol.RRdy h = (h, tt)
-receive_at p x t s Sound (symbol.Mark BbScS) h =
-    (h, good_at p (event.MadeGood x BbScS (frames_found s)) t (eqb (frames_found s) 0) h)
-receive_at p x t s Sound (symbol.Mark BbScR) h =
-    (h, good_at p (event.MadeGood x BbScR (rrdys_found s)) t (eqb (rrdys_found s) 0) h)
+receive_at p x t s v y h = grind (arith, nat_tests, good_at)
 
 pub account_skip : (p : ℕ) (l es : Log) (e : Event) → is_at p e ≡ false
     → account p (l ++ (e ∷ es)) ≡ account p (l ++ es)

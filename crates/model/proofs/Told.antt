@@ -82,19 +82,13 @@ put_adds : (r : Role) (t : Tally) → Adds t (one_put r t) (one_counted r + 0) 0
 put_adds r t = grind arith
 
 got_adds : (r : Role) (t : Tally) → Adds t (one_got r t) 0 (one_counted r + 0) 0 0
-got_adds counted t = omega arith
-got_adds mark t = omega arith
-got_adds other t = omega arith
+got_adds r t = grind arith
 
 lost_adds : (r : Role) (t : Tally) → Adds t (one_missed r t) 0 0 (one_counted r + 0) 0
-lost_adds counted t = omega arith
-lost_adds mark t = omega arith
-lost_adds other t = omega arith
+lost_adds r t = grind arith
 
 good_adds : (r : Role) (n : ℕ) (t : Tally) → Adds t (some_good r n t) 0 0 0 (good_of_role r n)
-good_adds counted n t = omega arith
-good_adds mark n t = omega arith
-good_adds other n t = omega arith
+good_adds r n t = grind arith
 
 tally_adds : (k : Stream) (t : Tally) (e : Event)
     → Adds t (tally_after k t e) (how_many k (symbol_in Put e)) (how_many k (symbol_in Got e))
@@ -113,34 +107,17 @@ puts_last : (ss : List Symbol) (e : Event) → by_item last as_it_was as_it_was 
 puts_last ss e = grind (arith, append-nil {A = Symbol})
 
 frame_is_last : (fs : List Frame) (s : Symbol) → frame_last fs s ≡ fs ++ frames_among (s ∷ [])
-frame_is_last fs (symbol.Frame f) = refl
-frame_is_last fs symbol.RRdy = sym (append-nil fs)
-frame_is_last fs (symbol.Mark m) = sym (append-nil fs)
+frame_is_last fs s = grind (arith, append-nil {A = Frame})
 
 lost_last : (fs : List Frame) (e : Event)
     → by_item as_it_was as_it_was frame_last fs e ≡ fs ++ frames_among (symbol_in Missed e)
-lost_last fs (event.Tick t) = sym (append-nil fs)
-lost_last fs (event.Item Put q s) = sym (append-nil fs)
-lost_last fs (event.Item Got q s) = sym (append-nil fs)
-lost_last fs (event.Item Missed q s) = frame_is_last fs s
-lost_last fs (event.Frame kind q f) = sym (append-nil fs)
-lost_last fs (event.MadeGood q m k) = sym (append-nil fs)
+lost_last fs e = grind (arith, append-nil {A = Frame}, frame_is_last)
 
 injected_last : (fs : List Frame) (e : Event) → by_frame as_it_was last as_it_was fs e ≡ fs ++ frame_in Injected e
-injected_last fs (event.Tick t) = sym (append-nil fs)
-injected_last fs (event.Item kind q s) = sym (append-nil fs)
-injected_last fs (event.Frame Freed q f) = sym (append-nil fs)
-injected_last fs (event.Frame Injected q f) = refl
-injected_last fs (event.Frame Collected q f) = sym (append-nil fs)
-injected_last fs (event.MadeGood q m k) = sym (append-nil fs)
+injected_last fs e = grind (arith, append-nil {A = Frame})
 
 collected_last : (fs : List Frame) (e : Event) → by_frame as_it_was as_it_was last fs e ≡ fs ++ frame_in Collected e
-collected_last fs (event.Tick t) = sym (append-nil fs)
-collected_last fs (event.Item kind q s) = sym (append-nil fs)
-collected_last fs (event.Frame Freed q f) = sym (append-nil fs)
-collected_last fs (event.Frame Injected q f) = sym (append-nil fs)
-collected_last fs (event.Frame Collected q f) = refl
-collected_last fs (event.MadeGood q m k) = sym (append-nil fs)
+collected_last fs e = grind (arith, append-nil {A = Frame})
 
 -- the symbols of what was taken
 taken-snoc : (ts : List Passage) (t : Passage) → taken_symbols (ts ++ (t ∷ [])) ≡ taken_symbols ts ++ (t.symbol ∷ [])
@@ -154,12 +131,7 @@ taken_good k (t ∷ u ∷ ts) = ap {B = List Symbol} (λ z. t.symbol ∷ z) (tak
 
 took_symbols : (ts : List Passage) (e : Event)
     → taken_symbols (took ts e) ≡ by_item as_it_was last last (taken_symbols ts) e
-took_symbols ts (event.Tick t) = refl
-took_symbols ts (event.Item Put q s) = refl
-took_symbols ts (event.Item Got q s) = taken-snoc ts _
-took_symbols ts (event.Item Missed q s) = taken-snoc ts _
-took_symbols ts (event.Frame kind q f) = refl
-took_symbols ts (event.MadeGood q m k) = taken_good k ts
+took_symbols ts e = grind (arith, taken-snoc, taken_good)
 
 took_taken : (a : Account) (es : Log) → taken_symbols a.takes ≡ a.taken
     → taken_symbols (noted_all a es).takes ≡ (noted_all a es).taken
