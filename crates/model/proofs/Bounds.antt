@@ -65,15 +65,13 @@ module _ (m n : ℕ) (s : Port) (h : Within m n s) where
   unsent_within = omega (arith, h, tail_most s.outbox.frames)
 
   emptied_within : (ws : List Frame) → s.buffers.waiting ≡ ws → Within m n (with_buffers s (emptied s.buffers ws))
-  emptied_within [] e = h
-  emptied_within (k ∷ ks) e = omega (arith, h, ap length e)
+  emptied_within ws e = grind (arith, h)
 
   sent_on_within : Within m n (sent_on s)
   sent_on_within = emptied_within s.buffers.waiting refl
 
   lent_within : (ws : List Frame) → s.buffers.waiting ≡ ws → Within m n (with_buffers s (lent_out s.buffers ws))
-  lent_within [] e = h
-  lent_within (k ∷ ks) e = omega (arith, h, ap length e)
+  lent_within ws e = grind (arith, h)
 
   pub handed_within : Within m n (handed_out s)
   handed_within = lent_within s.buffers.waiting refl

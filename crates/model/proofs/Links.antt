@@ -28,11 +28,7 @@ module _ {B : Type 0} (M : BankCalls B) where
   drawn_still c p s = grind (arith, nat_tests)
 
   by_symbol : (c : Chain B) (p : ℕ) (o : Option Symbol) → Still c (sends_symbol M c p o).state
-  by_symbol c p None = record { links = refl; tick = refl }
-  by_symbol c p (Some s) = let h = drawn_still (with_bank c (M.put c.bank p (sound s))) p s in record {
-    links = h.links;
-    tick = h.tick;
-  }
+  by_symbol c p o = grind (arith, drawn_still)
 
   pub sends_still : (c : Chain B) (p : ℕ) → Still c (sends M c p).state
   sends_still c p = let h = by_symbol (with_port c p (after_send (port_of c p) (sent M c p))) p (sent M c p) in

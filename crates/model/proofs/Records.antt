@@ -53,8 +53,7 @@ pub account_off : (p : ℕ) (l es : Log) → At p false es → account p (l ++ e
 account_off p l es h = account-append p l es ∙ ap (noted_all (account p l)) (of_port_off p es h)
 
 good_at : (p : ℕ) (e : Event) (t u : Bool) → is_at p e ≡ t → At p t (cond u [] (e ∷ []))
-good_at p e t true h = tt
-good_at p e t false h = (h, tt)
+good_at p e t u h = grind arith
 
 -- what a port writes of an item it takes is its own
 pub receive_at : (p x : ℕ) (t : Bool) (s : Port) (v : Note) (y : Symbol) → eqb p x ≡ t → At p t (taken_events x s v y)
@@ -82,10 +81,7 @@ module _ (p x z : ℕ) (f : Frame) (l : Log) where
       → SameFrames a
       (noted_all a
       (cond t (event.Item Put x (symbol.Frame f) ∷ []) [] ++ (cond u (event.Frame Freed z f ∷ []) [] ++ [])))
-  put_freed a true true = search rules
-  put_freed a true false = search rules
-  put_freed a false true = search rules
-  put_freed a false false = search rules
+  put_freed a t u = grind arith
 
   abbrev both : Log
   both = event.Item Put x (symbol.Frame f) ∷ event.Frame Freed z f ∷ []
@@ -95,8 +91,7 @@ module _ (p x z : ℕ) (f : Frame) (l : Log) where
       subst (SameFrames (account p l)) (sym (account-append p l both)) (put_freed (account p l) (eqb p x) (eqb p z))
 
   freed_puts : (a : Account) (u : Bool) → (noted_all a (cond u (event.Frame Freed z f ∷ []) [] ++ [])).puts ≡ a.puts
-  freed_puts a true = refl
-  freed_puts a false = refl
+  freed_puts a u = grind arith
 
   pub put_freed_puts : eqb p x ≡ false → (account p (l ++ both)).puts ≡ (account p l).puts
   put_freed_puts e =
@@ -150,21 +145,8 @@ rooms_kept all all' l es same h k =
 
 good_rooms : (all : ℕ → ℕ) (before : Log) (x k : ℕ) (m : MarkIs) (t : Bool)
     → AllMeetRoom all before (cond t [] (event.MadeGood x m k ∷ []))
-good_rooms all before x k s true = tt
-good_rooms all before x k s false = (tt, tt)
+good_rooms all before x k s t = grind arith
 
 pub receive_rooms : (all : ℕ → ℕ) (l : Log) (x : ℕ) (s : Port) (v : Note) (y : Symbol) → MeetsRoom all l x y
     → AllMeetRoom all l (taken_events x s v y)
-receive_rooms all l x s Lost y m = (tt, tt)
-receive_rooms all l x s Sound (symbol.Frame k) m = (m, tt)
-receive_rooms all l x s Sound symbol.RRdy m = (m, tt)
-receive_rooms all l x s Sound (symbol.Mark BbScS) m = (
-  tt,
-  good_rooms all (l ++ (event.Item Got x (symbol.Mark BbScS) ∷ [])) x (frames_found s) BbScS
-      (eqb (frames_found s) 0),
-)
-receive_rooms all l x s Sound (symbol.Mark BbScR) m = (
-  tt,
-  good_rooms all (l ++ (event.Item Got x (symbol.Mark BbScR) ∷ [])) x (rrdys_found s) BbScR
-      (eqb (rrdys_found s) 0),
-)
+receive_rooms all l x s v y m = grind (arith, good_rooms)

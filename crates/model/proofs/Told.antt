@@ -52,9 +52,7 @@ length_joined g es = length-flat_map g es ∙ sym (is_sum_by (total (λ e. lengt
 
 pub frames-append : (xs ys : List Symbol) → frames_among (xs ++ ys) ≡ frames_among xs ++ frames_among ys
 frames-append [] ys = refl
-frames-append (symbol.Frame f ∷ xs) ys = ap {B = List Frame} (λ z. f ∷ z) (frames-append xs ys)
-frames-append (symbol.RRdy ∷ xs) ys = frames-append xs ys
-frames-append (symbol.Mark m ∷ xs) ys = frames-append xs ys
+frames-append (x ∷ xs) ys = grind (arith, frames-append xs ys)
 
 -- a symbol that is no frame adds none
 pub frames_same : (ss : List Symbol) (y : Symbol) → frames_among (y ∷ []) ≡ []
@@ -93,12 +91,7 @@ good_adds r n t = grind arith
 tally_adds : (k : Stream) (t : Tally) (e : Event)
     → Adds t (tally_after k t e) (how_many k (symbol_in Put e)) (how_many k (symbol_in Got e))
     (how_many k (symbol_in Missed e)) (good_in k e)
-tally_adds k t (event.Tick n) = adds_nothing t
-tally_adds k t (event.Item Put q s) = put_adds (role k s) t
-tally_adds k t (event.Item Got q s) = got_adds (role k s) t
-tally_adds k t (event.Item Missed q s) = lost_adds (role k s) t
-tally_adds k t (event.Frame kind q f) = adds_nothing t
-tally_adds k t (event.MadeGood q m n) = good_adds (role k (symbol.Mark m)) n t
+tally_adds k t e = grind (arith, put_adds, got_adds, lost_adds, good_adds)
 
 freed_adds : (n : ℕ) (e : Event) → by_frame one_freed as_it_was as_it_was n e ≡ n + length (frame_in Freed e)
 freed_adds n e = grind arith
