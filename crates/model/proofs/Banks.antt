@@ -1,13 +1,14 @@
 -- What a lawful bank does at any number, whether there is a channel or not.
 use Rattle.std.proofs.Common.{◌≡◌, ℕ, ◌<◌, ◌≤◌, Bool, true, false, cond, ◌≢◌, ◌⊎◌, List, [], ◌∷◌, ◌++◌, length, sym}
 use Rattle.std.proofs.Common.{refl, ap, ◌∙◌, subst, inl, inr}
-use Rattle.std.proofs.lemmas.Bool.{cases_lt, false≢true, true≢false}
+use Rattle.std.proofs.Common.{⊎_elim}
+use Rattle.std.proofs.lemmas.Bool.{cases_lt, cond_both, false≢true, true≢false}
 use Rattle.ring.specs.Queue.{empty, tail}
 use Rattle.symbol.specs.Symbols.{noted_lost}
 use Rattle.symbol.specs.declared.Item.{Item}
 use Rattle.symbol.specs.declared.Symbol.{Symbol}
 use Rattle.channel.specs.Calls.{Aged, none, kept, lost, Known, received}
-use Rattle.bank.specs.Bank.{BankCalls, LawfulBank, count, channel_at}
+use Rattle.bank.specs.Bank.{BankCalls, LawfulBank, absent, count, channel_at}
 use Rattle.model.specs.Chain.{sound, symbols}
 
 pub symbols-snoc : (xs : List Item) (i : Item) → symbols (xs ++ (i ∷ [])) ≡ symbols xs ++ (i.symbol ∷ [])
@@ -24,22 +25,21 @@ module _ {B : Type 0} (M : BankCalls B) (law : (b : B) → LawfulBank M b) where
   absent_items : (b : B) (d : ℕ) → count M b ≤ d → (M.known b d).items ≡ []
   absent_items b d h = ap (λ (k : Known). k.items) ((law b).beyond d h)
 
+  -- where there is space, or an item is ready, there is a channel
+  there : (b : B) (d : ℕ) (f : Known → Bool) → f absent ≡ false → f (M.known b d) ≡ true → d < count M b
+  there b d f off on =
+      ⊎_elim (λ (h : d < count M b). h)
+      (λ (h : count M b ≤ d). absurd (false≢true (sym off ∙ sym (ap f ((law b).beyond d h)) ∙ on)))
+      (cases_lt d (count M b))
+
   -- an accepted symbol goes last
   pub bank_put : (b : B) (d : ℕ) (s : Symbol) → (M.known b d).space ≡ true
       → symbols (M.known (M.put b d (sound s)) d).items ≡ symbols (M.known b d).items ++ (s ∷ [])
-  bank_put b d s e = go (cases_lt d (count M b))
-    where
-      kind : (t : Bool) → M.loses b d (sound s) ≡ t → (received (channel_at M d) b (sound s)).symbol ≡ s
-      kind true z = ap (λ (t : Bool). (cond t (noted_lost (sound s)) (sound s)).symbol) z
-      kind false z = ap (λ (t : Bool). (cond t (noted_lost (sound s)) (sound s)).symbol) z
-
-      go : (d < count M b) ⊎ (count M b ≤ d)
-          → symbols (M.known (M.put b d (sound s)) d).items ≡ symbols (M.known b d).items ++ (s ∷ [])
-      go (inl h) =
-          ap symbols (((law b).channels d h).put_last (sound s) e)
-          ∙ symbols-snoc (M.known b d).items (received (channel_at M d) b (sound s))
-          ∙ ap {B = List Symbol} (λ z. symbols (M.known b d).items ++ (z ∷ [])) (kind (M.loses b d (sound s)) refl)
-      go (inr h) = absurd (false≢true (sym (ap (λ (k : Known). k.space) ((law b).beyond d h)) ∙ e))
+  bank_put b d s e =
+      ap symbols (((law b).channels d (there b d (λ k. k.space) refl e)).put_last (sound s) e)
+      ∙ symbols-snoc (M.known b d).items (received (channel_at M d) b (sound s))
+      ∙ ap {B = List Symbol} (λ z. symbols (M.known b d).items ++ (z ∷ []))
+      (cond_both (M.loses b d (sound s)) _ _ (λ (i : Item). i.symbol ≡ s) (λ z. refl) (λ z. refl))
 
   pub bank_put_off : (b : B) (d p : ℕ) (s : Symbol) → p ≢ d
       → symbols (M.known (M.put b d (sound s)) p).items ≡ symbols (M.known b p).items
@@ -51,33 +51,23 @@ module _ {B : Type 0} (M : BankCalls B) (law : (b : B) → LawfulBank M b) where
 
   -- a take hands out a ready first item, or changes nothing
   pub bank_take_none : (b : B) (d : ℕ) → (M.known b d).ready ≡ false → M.take b d ≡ b
-  bank_take_none b d e = go (cases_lt d (count M b))
-    where
-      go : (d < count M b) ⊎ (count M b ≤ d) → M.take b d ≡ b
-      go (inl h) = ((law b).channels d h).take_none e
-      go (inr h) = (law b).take_beyond d h
+  bank_take_none b d e =
+      ⊎_elim (λ (h : d < count M b). ((law b).channels d h).take_none e)
+      (λ (h : count M b ≤ d). (law b).take_beyond d h) (cases_lt d (count M b))
 
   pub bank_take : (b : B) (d : ℕ) (i : Item) (is : List Item) → (M.known b d).ready ≡ true
       → (M.known b d).items ≡ i ∷ is → (M.known (M.take b d) d).items ≡ is
-  bank_take b d i is e f = go (cases_lt d (count M b))
-    where
-      go : (d < count M b) ⊎ (count M b ≤ d) → (M.known (M.take b d) d).items ≡ is
-      go (inl h) = ((law b).channels d h).take_first e ∙ ap tail f
-      go (inr h) = absurd (false≢true (sym (ap (λ (k : Known). k.ready) ((law b).beyond d h)) ∙ e))
+  bank_take b d i is e f =
+      ((law b).channels d (there b d (λ k. k.ready) refl e)).take_first e ∙ ap tail f
 
   pub bank_ready : (b : B) (d : ℕ) → (M.known b d).ready ≡ true → (M.known b d).items ≡ [] → ⊥
-  bank_ready b d e f = go (cases_lt d (count M b))
-    where
-      go : (d < count M b) ⊎ (count M b ≤ d) → ⊥
-      go (inl h) = true≢false (sym (ap empty f) ∙ ((law b).channels d h).ready_some e)
-      go (inr h) = false≢true (sym (ap (λ (k : Known). k.ready) ((law b).beyond d h)) ∙ e)
+  bank_ready b d e f =
+      true≢false (sym (ap empty f) ∙ ((law b).channels d (there b d (λ k. k.ready) refl e)).ready_some e)
 
   -- a step leaves the symbols where they are
   pub bank_step : (b : B) (d : ℕ) → symbols (M.known (M.step b) d).items ≡ symbols (M.known b d).items
-  bank_step b d = go (cases_lt d (count M b))
-    where
-      go : (d < count M b) ⊎ (count M b ≤ d) → symbols (M.known (M.step b) d).items ≡ symbols (M.known b d).items
-      go (inl h) = sym (aged_symbols ((law b).channels d h).step_items)
-      go (inr h) =
-          ap symbols (absent_items (M.step b) d (subst (λ (ls : List ℕ). length ls ≤ d) (sym (law b).step_letters) h))
-          ∙ sym (ap symbols (absent_items b d h))
+  bank_step b d =
+      ⊎_elim (λ (h : d < count M b). sym (aged_symbols ((law b).channels d h).step_items))
+      (λ (h : count M b ≤ d). ap symbols
+      (absent_items (M.step b) d (subst (λ (ls : List ℕ). length ls ≤ d) (sym (law b).step_letters) h))
+      ∙ sym (ap symbols (absent_items b d h))) (cases_lt d (count M b))

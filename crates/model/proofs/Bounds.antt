@@ -1,8 +1,9 @@
 -- No figure of a run comes near the largest that its field holds: in a step each port takes one item and sends one
 -- symbol at most.
-use Rattle.std.proofs.Common.{◌≡◌, ℕ, zero, suc, ◌+◌, ◌*◌, ◌<◌, ◌≤◌, eqb, ◌≢◌, ◌⊎◌, List, []}
+use Rattle.std.proofs.Common.{◌≡◌, ℕ, zero, suc, ◌+◌, ◌*◌, ◌<◌, ◌≤◌, eqb, ◌≢◌, ◌⊎◌, ⊎_elim, List, []}
 use Rattle.std.proofs.Common.{◌∷◌, length, get_or, set, Some, None, Option, sym, refl, ap, ◌∙◌, subst, inl, inr, arith}
 use Rattle.std.proofs.Common.{length-append, get_or-set_other}
+use Rattle.std.proofs.lemmas.Bool.Decides.{nat_tests}
 use Rattle.std.proofs.lemmas.Bool.{cases_eq, cases_lt, cond_both}
 use Rattle.ring.specs.Queue.{tail}
 use Rattle.symbol.specs.declared.Frame.{Frame}
@@ -48,45 +49,29 @@ pub new_port_within : (m n : ℕ) → Within m n new_port
 new_port_within m n = fresh_within m n 1 1 0 (omega arith) (omega arith) (omega arith)
 
 tail_most : (ks : List Frame) → (length ks ≤ length (tail ks) + 1) × (length (tail ks) ≤ length ks)
-tail_most [] = (omega arith, omega arith)
-tail_most (k ∷ ks) = (omega arith, omega arith)
+tail_most ks = grind arith
 
 module _ (m n : ℕ) (s : Port) (h : Within m n s) where
   taken_later : Within (m + 1) n s
   taken_later = later s (omega arith) (omega arith) h
 
   received_within : (v : Note) (y : Symbol) → Within (m + 1) n (received s v y)
-  received_within Lost (symbol.Frame k) = omega (arith, h)
-  received_within Lost symbol.RRdy = omega (arith, h)
-  received_within Lost (symbol.Mark y) = taken_later
-  received_within Sound (symbol.Frame k) =
-      cond_both (is_full s.buffers) _ _ (Within (m + 1) n) (λ e. taken_later)
-      (λ e. omega (arith, h, length-append s.buffers.waiting (k ∷ [])))
-  received_within Sound symbol.RRdy =
-      cond_both (eqb s.credit.used 0) _ _ (Within (m + 1) n) (λ e. taken_later) (λ e. omega (arith, h))
-  received_within Sound (symbol.Mark BbScS) = omega (arith, h)
-  received_within Sound (symbol.Mark BbScR) = omega (arith, h)
+  received_within v y = grind (arith, nat_tests, h, length-append s.buffers.waiting)
 
   sent_within : (o : Option Symbol) → Within m n (after_send s o)
-  sent_within None = h
-  sent_within (Some (symbol.Frame k)) = omega (arith, h)
-  sent_within (Some symbol.RRdy) = omega (arith, h)
-  sent_within (Some (symbol.Mark BbScS)) = omega (arith, h)
-  sent_within (Some (symbol.Mark BbScR)) = omega (arith, h)
+  sent_within o = grind (arith, h)
 
   unsent_within : Within m (n + 1) (unsent s)
   unsent_within = omega (arith, h, tail_most s.outbox.frames)
 
   emptied_within : (ws : List Frame) → s.buffers.waiting ≡ ws → Within m n (with_buffers s (emptied s.buffers ws))
-  emptied_within [] e = h
-  emptied_within (k ∷ ks) e = omega (arith, h, ap length e)
+  emptied_within ws e = grind (arith, h)
 
   sent_on_within : Within m n (sent_on s)
   sent_on_within = emptied_within s.buffers.waiting refl
 
   lent_within : (ws : List Frame) → s.buffers.waiting ≡ ws → Within m n (with_buffers s (lent_out s.buffers ws))
-  lent_within [] e = h
-  lent_within (k ∷ ks) e = omega (arith, h, ap length e)
+  lent_within ws e = grind (arith, h)
 
   pub handed_within : Within m n (handed_out s)
   handed_within = lent_within s.buffers.waiting refl
@@ -132,30 +117,22 @@ module _ {B : Type 0} (P Q : Port → Type 0) (f : Chain B → ℕ → Turn (Cha
   each_turn : (c : Chain B) (k : ℕ) → ((q : ℕ) → P (port_of c q)) → (q : ℕ)
       → (q < k → Q (port_of (each_port f k c).state q)) × (k ≤ q → P (port_of (each_port f k c).state q))
   each_turn c zero h q = (λ z. absurd (omega arith), λ z. h q)
-  each_turn c (suc k) h q = go (cases_eq q k) (each_turn c k h q)
-    where
-      go : (q ≡ k) ⊎ (q ≡ k → ⊥)
-          → (q < k → Q (port_of (each_port f k c).state q)) × (k ≤ q → P (port_of (each_port f k c).state q))
-          → (q < suc k → Q (port_of (f (each_port f k c).state k).state q)) ×
-          (suc k ≤ q → P (port_of (f (each_port f k c).state k).state q))
-      go (inl e) r = (
-        λ z. subst (λ (v : ℕ). Q (port_of (f (each_port f k c).state k).state v)) (sym e)
-            (own (each_port f k c).state k
-            (subst (λ (v : ℕ). P (port_of (each_port f k c).state v)) e (r.1 (omega (arith, e))))),
+  each_turn c (suc k) h q =
+      let r = each_turn c k h q in
+      let d = (each_port f k c).state in
+      ⊎_elim
+      (λ (e : q ≡ k). (
+        λ z. subst (λ (v : ℕ). Q (port_of (f d k).state v)) (sym e)
+            (own d k (subst (λ (v : ℕ). P (port_of d v)) e (r.1 (omega (arith, e))))),
         λ z. absurd (omega (arith, e)),
-      )
-      go (inr n) r = let m : q ≢ k = n in (
-        λ z. off-after (each_port f k c).state k q n (r.0 (omega (arith, m))),
-        λ z. off-before
-            (each_port f k c).state k q n (r.1 (omega arith)),
-      )
+      ))
+      (λ (n : q ≢ k). (λ z. off-after d k q n (r.0 (omega (arith, n))), λ z. off-before d k q n (r.1 (omega arith))))
+      (cases_eq q k)
 
   pub each_all : (c : Chain B) (k : ℕ) → ((q : ℕ) → P (port_of c q)) → (q : ℕ) → Q (port_of (each_port f k c).state q)
-  each_all c k h q = go (cases_lt q k)
-    where
-      go : (q < k) ⊎ (k ≤ q) → Q (port_of (each_port f k c).state q)
-      go (inl z) = (each_turn c k h q).0 z
-      go (inr z) = weak (port_of (each_port f k c).state q) ((each_turn c k h q).1 z)
+  each_all c k h q =
+      ⊎_elim (λ (z : q < k). (each_turn c k h q).0 z)
+      (λ (z : k ≤ q). weak (port_of (each_port f k c).state q) ((each_turn c k h q).1 z)) (cases_lt q k)
 
 module _ {B : Type 0} (M : BankCalls B) where
   takes_own : (m n : ℕ) (c : Chain B) (p : ℕ) → Within m n (port_of c p)

@@ -31,10 +31,7 @@ module _ (ts : List Passage) (x y : Stretches) (h : CutInto ts x y) (s : Symbol)
       (and_one y (role RRdys s) f)
   cut_more f =
       let one : List Passage = record { symbol = s; fate = f } ∷ [] in
-      record {
-        frames = cut-append Frames nothing_put ts one ∙ ap (λ (z : Stretches). cut Frames z one) h.frames;
-        rrdys = cut-append RRdys nothing_put ts one ∙ ap (λ (z : Stretches). cut RRdys z one) h.rrdys;
-      }
+      record { frames = cc (cut-append Frames nothing_put ts one); rrdys = cc (cut-append RRdys nothing_put ts one) }
 
   -- and a made good record follows
   pub cut_good : (k : ℕ)
@@ -67,9 +64,7 @@ pub record SameLosses (x y : Stretches) : Type 0 where
   pub lost : lost_among y.still_open ≡ lost_among x.still_open
 
 one_under_way : (x y : Stretches) (r : Role) → SameLosses x y → SameLosses x (and_one y r UnderWay)
-one_under_way x y counted h = record { ended = h.ended; lost = omega (arith, h.lost) }
-one_under_way x y mark h = h
-one_under_way x y other h = h
+one_under_way x y r h = grind (arith, h)
 
 all_on_the_way : (k : Stream) (x y : Stretches) (ss : List Symbol) → SameLosses x y
     → SameLosses x (cut k y (all_under_way ss))
@@ -81,7 +76,5 @@ pub put_stretches : (k : Stream) (ps : List Symbol) (ts : List Passage) (ss : Li
     → ps ≡ taken_symbols ts ++ ss → cut k nothing_put ts ≡ x → SameLosses x (cut k nothing_put (paired ps ts))
 put_stretches k ps ts ss x e f =
     subst (SameLosses x)
-    (sym
-    (ap (λ (z : List Symbol). cut k nothing_put (paired z ts)) e ∙ ap (cut k nothing_put) (paired_taken ts ss)
-    ∙ cut-append k nothing_put ts (all_under_way ss) ∙ ap (λ (z : Stretches). cut k z (all_under_way ss)) f))
+    (cc (paired_taken ts ss, cut-append k nothing_put ts (all_under_way ss)))
     (all_on_the_way k x x ss (record { ended = refl; lost = refl }))

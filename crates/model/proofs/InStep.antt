@@ -51,9 +51,7 @@ marks-snoc m x (y ∷ ys) r h a =
 
 -- marks look at the count modulo m only
 at_mark_mod : (m x y : ℕ) (r : Role) → x % m ≡ y % m → AtMark r m x → AtMark r m y
-at_mark_mod m x y counted e h = tt
-at_mark_mod m x y mark e h = sym e ∙ h
-at_mark_mod m x y other e h = tt
+at_mark_mod m x y r e h = grind arith
 
 add_mod_eq : (m x y k : ℕ) → x % m ≡ y % m → (x + k) % m ≡ (y + k) % m
 add_mod_eq m x y k e = sym (mod-add-mod x m k) ∙ ap (λ (z : ℕ). (z + k) % m) e ∙ mod-add-mod y m k
@@ -99,18 +97,17 @@ module _ (n : ℕ) (out : Outflow) (got : ℕ) (x : Losses) where
     due = false;
   }) got (rs ++ (mark ∷ [])) x
   put_mark rs d h =
-      put_more mark _ rs (λ e. e ∙ ap (λ (z : ℕ). z % 2 ^ n) (omega arith)) (λ e. h.due_is d)
-      (sym h.sent_is ∙ h.due_is d) h
+      put_more mark _ rs (λ e. grind arith) (λ e. h.due_is d) (sym h.sent_is ∙ h.due_is d) h
 
   pub put_other : (rs : List Role) → InStep n out got rs x → InStep n out got (rs ++ (other ∷ [])) x
-  put_other rs h = put_more other _ rs (λ e. e ∙ ap (λ (z : ℕ). z % 2 ^ n) (omega arith)) h.due_is tt h
+  put_other rs h = put_more other _ rs (λ e. grind arith) h.due_is tt h
 
   -- what is not counted is taken
   take_uncounted : (r : Role) (rs : List Role) → one_counted r ≡ 0 → InStep n out got (r ∷ rs) x → InStep n out got rs x
   take_uncounted r rs z h = record {
-    sent_is = h.sent_is ∙ ap (λ (z : ℕ). z % 2 ^ n) (omega (arith, z));
+    sent_is = grind (arith, h.sent_is);
     due_is = h.due_is;
-    marks = marks_mod _ _ _ rs (ap (λ (z : ℕ). z % 2 ^ n) (omega (arith, z))) h.marks.1;
+    marks = marks_mod _ _ _ rs (grind arith) h.marks.1;
     below = h.below;
     good = h.good;
     ended = h.ended;
@@ -125,9 +122,9 @@ module _ (n : ℕ) (out : Outflow) (got : ℕ) (x : Losses) where
   pub lose_counted : (rs : List Role) → InStep n out got (counted ∷ rs) x
       → InStep n out got rs (with_lost x)
   lose_counted rs h = record {
-    sent_is = h.sent_is ∙ ap (λ (z : ℕ). z % 2 ^ n) (omega arith);
+    sent_is = grind (arith, h.sent_is);
     due_is = h.due_is;
-    marks = marks_mod _ _ _ rs (ap (λ (z : ℕ). z % 2 ^ n) (omega arith)) h.marks.1;
+    marks = marks_mod _ _ _ rs (grind arith) h.marks.1;
     below = h.below;
     good = omega (arith, h.good);
     ended = record {
@@ -138,20 +135,14 @@ module _ (n : ℕ) (out : Outflow) (got : ℕ) (x : Losses) where
   }
 
   got_more : (k : ℕ) → ((got + 1) % 2 ^ n + open_lost x + k) % 2 ^ n ≡ (got + open_lost x + suc k) % 2 ^ n
-  got_more k = ap (λ (z : ℕ). z % 2 ^ n) (omega arith) ∙ mod-add-mod (got + 1) (2 ^ n) (open_lost x + k)
-      ∙ ap (λ (z : ℕ). z % 2 ^ n) (omega arith)
+  got_more k = grind (arith, mod-add-mod (got + 1) (2 ^ n) (open_lost x + k))
 
   pub get_counted : (rs : List Role) → InStep n out got (counted ∷ rs) x
       → InStep n out ((got + 1) % 2 ^ n) rs (with_got x)
   get_counted rs h = record {
-    sent_is = h.sent_is
-        ∙ sym
-        (ap (λ (z : ℕ). z % 2 ^ n) (omega arith) ∙ got_more (counted_in rs) ∙ ap (λ (z : ℕ). z % 2 ^ n) (omega arith));
+    sent_is = grind (arith, h.sent_is, got_more (counted_in rs));
     due_is = h.due_is;
-    marks =
-        marks_mod _ _ _ rs
-        (ap (λ (z : ℕ). z % 2 ^ n) (omega arith) ∙ sym (got_more 0) ∙ ap (λ (z : ℕ). z % 2 ^ n) (omega arith))
-        h.marks.1;
+    marks = marks_mod _ _ _ rs (grind (arith, got_more 0)) h.marks.1;
     below = mod-lt (got + 1) (pow_pos n);
     good = omega (arith, h.good);
     ended = record {
@@ -164,22 +155,25 @@ module _ (n : ℕ) (out : Outflow) (got : ℕ) (x : Losses) where
   -- what a sound mark finds lost is what was lost since the last, modulo 2^n
   pub found : (rs : List Role) → InStep n out got (mark ∷ rs) x → lost_of n got ≡ open_lost x % 2 ^ n
   found rs h =
-      ap (λ (z : ℕ). z % 2 ^ n) (omega (arith, h.marks.0))
-      ∙ ap (λ (z : ℕ). (2 ^ n - got + z) % 2 ^ n) (sym h.marks.0)
-      ∙ add-mod-mod (2 ^ n - got) (got + open_lost x) (2 ^ n)
-      ∙ ap (λ (z : ℕ). z % 2 ^ n) (omega (arith, h.below))
-      ∙ add-mod_left (2 ^ n) (open_lost x)
+      grind (
+        arith,
+        h.marks.0,
+        h.below,
+        add-mod-mod (2 ^ n - got) (got + open_lost x) (2 ^ n),
+        add-mod_left (2 ^ n) (open_lost x),
+      )
 
   pub get_mark : (rs : List Role) → InStep n out got (mark ∷ rs) x
       → InStep n out 0 rs (with_mark x (x.good + lost_of n got) (lost_of n got))
   get_mark rs h = record {
-    sent_is = h.sent_is ∙ ap (λ (z : ℕ). z % 2 ^ n) (omega arith)
-        ∙ add_mod_eq (2 ^ n) (got + open_lost x) 0 (counted_in rs) (h.marks.0 ∙ sym (zero-mod (2 ^ n)))
-        ∙ ap (λ (z : ℕ). z % 2 ^ n) (omega arith);
+    sent_is =
+        grind (
+          arith,
+          h.sent_is,
+          add_mod_eq (2 ^ n) (got + open_lost x) 0 (counted_in rs) (h.marks.0 ∙ sym (zero-mod (2 ^ n))),
+        );
     due_is = h.due_is;
-    marks =
-        marks_mod _ _ _ rs (ap (λ (z : ℕ). z % 2 ^ n) (omega arith) ∙ h.marks.0 ∙ sym (zero-mod (2 ^ n)))
-        h.marks.1;
+    marks = marks_mod _ _ _ rs (grind (arith, h.marks.0, zero-mod (2 ^ n))) h.marks.1;
     below = pow_pos n;
     good = omega (arith, found rs h, mod-le (open_lost x) (2 ^ n), h.good);
     ended = record {

@@ -1,5 +1,5 @@
 -- What holds of a chain and the log of its run, and that each act of a port keeps it.
-use Rattle.std.proofs.Common.{◌≡◌, ℕ, ◌+◌, ◌-◌, ◌*◌, ◌<◌, ◌≤◌, min, Bool, true, false, cond, eqb, ltb, ◌≢◌, ◌⊎◌, List}
+use Rattle.std.proofs.Common.{◌≡◌, ℕ, ◌+◌, ◌-◌, ◌*◌, ◌<◌, ◌≤◌, min, Bool, true, false, cond, eqb, ltb, ◌≢◌, ◌⊎◌, ⊎_elim, List}
 use Rattle.std.proofs.Common.{[], ◌∷◌, ◌++◌, length, set, Some, None, Option, sym, refl, ap, ◌∙◌, subst, inl, inr}
 use Rattle.std.proofs.Common.{append_assoc, append-nil, arith, length-append, length-set, get_or-set_other}
 use Rattle.std.proofs.Common.{get_or-set_same, set-set}
@@ -291,17 +291,15 @@ module _ {B : Type 0} (M : BankCalls B) (law : (b : B) → LawfulBank M b) where
     -- what the act keeps, at x and elsewhere
     at_each : Act (Inner c x) (port_of c x) s (account x l) (noted_all (account x l) es) → (p : ℕ)
         → Act (Inner c p) (port_of c p) (port_of after p) (account p l) (account p (l ++ es))
-    at_each here p = go (cases_eq p x)
-      where
-        go : (p ≡ x) ⊎ (p ≡ x → ⊥) → Act (Inner c p) (port_of c p) (port_of after p) (account p l) (account p (l ++ es))
-        go (inl e) =
-            subst (λ (z : ℕ). Act (Inner c z) (port_of c z) (port_of after z) (account z l) (account z (l ++ es)))
-            (sym e)
-            (transport (λ i. Act (Inner c x) (port_of c x) (sym now_x i) (account x l) (sym acc_x i)) here)
-        go (inr n) =
-            transport
-            (λ i. Act (Inner c p) (port_of c p) (sym (now_other p n) i) (account p l) (sym (acc_other p n) i))
-            (no_change (Inner c p) (port_of c p) (account p l))
+    at_each here p =
+        ⊎_elim
+        (λ (e : p ≡ x). subst
+        (λ (z : ℕ). Act (Inner c z) (port_of c z) (port_of after z) (account z l) (account z (l ++ es))) (sym e)
+        (transport (λ i. Act (Inner c x) (port_of c x) (sym now_x i) (account x l) (sym acc_x i)) here))
+        (λ (n : p ≢ x). transport
+        (λ i. Act (Inner c p) (port_of c p) (sym (now_other p n) i) (account p l) (sym (acc_other p n) i))
+        (no_change (Inner c p) (port_of c p) (account p l)))
+        (cases_eq p x)
 
     pub act : ((p : ℕ) → p ≢ x → p ≢ w → symbols (M.known b p).items ≡ on M c p)
         → Loop s (port_of c w) (symbols (M.known b x).items) (symbols (M.known b w).items)
@@ -577,20 +575,18 @@ module _ {B : Type 0} (M : BankCalls B) (law : (b : B) → LawfulBank M b) where
 
     passed : (p q : ℕ) → p < 2 * c.links → p ≢ 0 → p ≢ 2 * c.links - 1 → behind p ≡ q
         → (account q both_log).got ≡ frames_among (account p both_log).puts ++ (port_of sent_by q).buffers.waiting
-    passed p q pl m0 m1 f = go (cases_eq p x)
-      where
-        go : (p ≡ x) ⊎ (p ≡ x → ⊥)
-            → (account q both_log).got ≡ frames_among (account p both_log).puts ++ (port_of sent_by q).buffers.waiting
-        go (inl e) =
+    passed p q pl m0 m1 f =
+        ⊎_elim
+        (λ (e : p ≡ x).
             let qz : q ≡ z = sym f ∙ ap behind e ∙ bx in
             transport
             (λ i. (account (sym qz i) both_log).got
             ≡ frames_among (account (sym e i) both_log).puts ++ (port_of sent_by
-            (sym qz i)).buffers.waiting) x_passed
-        go (inr n) =
-            (same_frames q).got ∙ h.passed_on p q pl m0 m1 f
+            (sym qz i)).buffers.waiting) x_passed)
+        (λ (n : p ≢ x). (same_frames q).got ∙ h.passed_on p q pl m0 m1 f
             ∙ (λ i. frames_among (sym (same_puts p n) i) ++ sym
-            (still_waits q (λ d. n (behind_one p x m0 n0 (f ∙ d ∙ sym bx)))) i)
+            (still_waits q (λ d. n (behind_one p x m0 n0 (f ∙ d ∙ sym bx)))) i))
+        (cases_eq p x)
 
     pub inner_put_kept : Invariant M sent_by both_log
     inner_put_kept = record {
@@ -693,14 +689,14 @@ module _ {B : Type 0} (M : BankCalls B) (law : (b : B) → LawfulBank M b) where
         (end_act x (Inner c x) (port_of c x) (account x l) k (tail (port_of c x).outbox.frames) (outer c x e)
         (first_is (port_of c x).outbox.frames k src)))
     frame_kept k false may e src =
-        let n0 = eqb-false x 0 (or_parts (eqb x 0) (eqb x (2 * c.links - 1)) e).0 in
+        let n : (x ≢ 0) × (x ≢ 2 * c.links - 1) = grind (arith, nat_tests) in
         let queue = first_is (port_of c (behind x)).buffers.waiting k src in
         subst
         (λ (ps : List Port). Invariant M (with_ports (put_at (symbol.Frame k)) ps)
         (l ++ (event.Item Put x (symbol.Frame k) ∷ event.Frame Freed (behind x) k ∷ []))) (sym
-        (inner_ports (symbol.Frame k) k (tail (port_of c (behind x)).buffers.waiting) (behind_other x n0) queue))
-        (inner_put_kept c l x (facing x) (behind x) k (tail (port_of c (behind x)).buffers.waiting) h lt refl n0
-        (eqb-false x (2 * c.links - 1) (or_parts (eqb x 0) (eqb x (2 * c.links - 1)) e).1) refl space may queue)
+        (inner_ports (symbol.Frame k) k (tail (port_of c (behind x)).buffers.waiting) (behind_other x n.0) queue))
+        (inner_put_kept c l x (facing x) (behind x) k (tail (port_of c (behind x)).buffers.waiting) h lt refl n.0
+        n.1 refl space may queue)
 
   -- a port that sends nothing
   idle_kept : (c : Chain B) (l : Log) (x : ℕ) → Invariant M c l → Invariant M (with_port c x (port_of c x)) (l ++ [])

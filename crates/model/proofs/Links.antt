@@ -1,6 +1,7 @@
 -- No act of a port changes the links or the tick.
 use Rattle.std.proofs.Common.{◌≡◌, ℕ, zero, suc, Some, None, Option, refl, ◌∙◌}
-use Rattle.std.proofs.lemmas.Bool.{cond_both}
+use Rattle.std.proofs.Common.{arith}
+use Rattle.std.proofs.lemmas.Bool.Decides.{nat_tests}
 use Rattle.symbol.specs.declared.Item.{Item}
 use Rattle.symbol.specs.declared.Symbol.{Symbol}
 use Rattle.symbol.specs.declared.Symbol.TheVariants as symbol
@@ -16,8 +17,7 @@ pub record Still {B : Type 0} (c d : Chain B) : Type 0 where
 
 module _ {B : Type 0} (M : BankCalls B) where
   by_item : (c : Chain B) (p : ℕ) (o : Option Item) → Still c (takes_item M c p o).state
-  by_item c p None = record { links = refl; tick = refl }
-  by_item c p (Some i) = record { links = refl; tick = refl }
+  by_item c p o = grind arith
 
   pub takes_still : (c : Chain B) (p : ℕ) → Still c (takes M c p).state
   takes_still c p =
@@ -25,18 +25,10 @@ module _ {B : Type 0} (M : BankCalls B) where
       record { links = h.links; tick = h.tick }
 
   drawn_still : (c : Chain B) (p : ℕ) (s : Symbol) → Still c (drawn M c p s)
-  drawn_still c p (symbol.Frame k) =
-      cond_both (is_end c.links p) _ _ (Still c) (λ e. record { links = refl; tick = refl })
-      (λ e. record { links = refl; tick = refl })
-  drawn_still c p symbol.RRdy = record { links = refl; tick = refl }
-  drawn_still c p (symbol.Mark m) = record { links = refl; tick = refl }
+  drawn_still c p s = grind (arith, nat_tests)
 
   by_symbol : (c : Chain B) (p : ℕ) (o : Option Symbol) → Still c (sends_symbol M c p o).state
-  by_symbol c p None = record { links = refl; tick = refl }
-  by_symbol c p (Some s) = let h = drawn_still (with_bank c (M.put c.bank p (sound s))) p s in record {
-    links = h.links;
-    tick = h.tick;
-  }
+  by_symbol c p o = grind (arith, drawn_still)
 
   pub sends_still : (c : Chain B) (p : ℕ) → Still c (sends M c p).state
   sends_still c p = let h = by_symbol (with_port c p (after_send (port_of c p) (sent M c p))) p (sent M c p) in

@@ -196,13 +196,7 @@ MayPut p (symbol.Mark BbScR) = p.rrdys_out.due ≡ true
 module _ (at : ℕ) (s r : Port) (fwd back : List Symbol) (a b : Account) where
   pub sender_misses : (y : Symbol) → Loop s r fwd (y ∷ back) a b
       → Loop (missed s y) r fwd back (noted a (event.Item Missed at y)) b
-  sender_misses (symbol.Frame k) h =
-      loop_by (omega (arith, h)) h.frames (take_other _ _ _ _ _ h.rrdys) h.order
-  sender_misses symbol.RRdy h = loop_by (omega (arith, h)) h.frames (lose_counted _ _ _ _ _ h.rrdys) h.order
-  sender_misses (symbol.Mark BbScS) h =
-      loop_by (omega (arith, h)) h.frames (take_other _ _ _ _ _ h.rrdys) h.order
-  sender_misses (symbol.Mark BbScR) h =
-      loop_by (omega (arith, h)) h.frames (lose_mark _ _ _ _ _ h.rrdys) h.order
+  sender_misses y h = grind (arith, h, take_other, lose_mark, lose_counted)
 
   pub receiver_misses : (y : Symbol) → Loop s r (y ∷ fwd) back a b
       → Loop s (missed r y) fwd back a (noted b (event.Item Missed at y))

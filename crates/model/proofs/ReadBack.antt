@@ -20,7 +20,7 @@ use Rattle.model.proofs.Places.{end_below}
 use Rattle.model.proofs.Readable.{FineNumber, FineSymbols, FinePort, FineOldest, Fine, FineTurn, FineRun, fresh_fine}
 use Rattle.model.proofs.Readable.{well_frame, fine_port, fine_more, oldest_fine, handed_out_fine, released_fine}
 use Rattle.model.proofs.Readable.{next_fine, injected_fine, number_found, step_fine}
-use Rattle.model.proofs.Runs.{collect_cases, unless, new_ports, cabling, some_links, passed, login_fits, step_early, released_out, run_bounded}
+use Rattle.model.proofs.Runs.{collect_cases, unless, new_ports, cabling, inject_fits, login_fits, step_early, released_out, run_bounded}
 
 module _ {B : Type 0} (M : BankCalls B) (law : (b : B) → LawfulBank M b) where
   -- every record of a run is well-formed
@@ -97,7 +97,7 @@ module _ {B : Type 0} (M : BankCalls B) (law : (b : B) → LawfulBank M b) where
   run_fine (inject {c = c} {l = l} e room r) =
       unless_fine (inject_refusal M c e room) c (injected M c e) l (run_fine r)
       (λ z. end_fine c e Injected (next_frame (port_of c (end_port c e))) (injected_at (port_of c (end_port c e)))
-      (some_links M law c (passed M law (eqb c.links 0) refusal.NoLinks _ z).0) (run_fine r).state
+      (inject_fits M law c e room z).0 (run_fine r).state
       (injected_fine (port_of c (end_port c e)) ((run_fine r).state.ports (end_port c e)))
       (next_fine (port_of c (end_port c e)) ((run_fine r).state.ports (end_port c e))))
   run_fine (collect {c = c} {l = l} m e room r) = collect_fine c l e room (run_fine r)

@@ -1,6 +1,6 @@
 -- Every record of a run is well-formed, so its log reads back as its events.
 use Rattle.std.proofs.Common.{◌≡◌, ℕ, zero, suc, ◌+◌, ◌-◌, ◌*◌, ◌^◌, ◌<◌, ◌≤◌, Bool, true, false, cond, ◌&&◌, ◌||◌}
-use Rattle.std.proofs.Common.{eqb, ltb, ◌≢◌, ◌⊎◌, List, [], ◌∷◌, ◌++◌, Some, None, Option, sym, refl, subst, inl, inr}
+use Rattle.std.proofs.Common.{eqb, ltb, ◌≢◌, ⊎_elim, List, [], ◌∷◌, ◌++◌, Some, None, Option, sym, refl, subst, inl, inr}
 use Rattle.std.proofs.Common.{mod-lt, arith, pow_pos, pow_mono}
 use Rattle.std.proofs.ByRecursion.{All-append}
 use Rattle.std.proofs.lemmas.Bool.Decides.{nat_tests}
@@ -66,9 +66,7 @@ fresh_fine a b n h = record { small = h; boxed = tt; wait = tt; outside = tt }
 
 -- records that are well-formed
 well_item : (kind : ItemKind) (p : ℕ) (y : Symbol) → p < 16 → FineSymbol y → WellFormed (event.Item kind p y)
-well_item kind p (symbol.Frame f) h z = ((λ i. lt-ltb p 16 h i && lt-ltb 0 f.number z.0 i), z.1)
-well_item kind p symbol.RRdy h z = ((λ i. lt-ltb p 16 h i && true), tt)
-well_item kind p (symbol.Mark m) h z = ((λ i. lt-ltb p 16 h i && true), tt)
+well_item kind p y h z = grind (arith, nat_tests)
 
 pub well_frame : (kind : FrameKind) (p : ℕ) (f : Frame) → p < 16 → FineNumber f.number
     → WellFormed (event.Frame kind p f)
@@ -79,16 +77,7 @@ well_good p m x h some few = ((λ i. lt-ltb p 16 h i && lt-ltb 0 x some i), few)
 
 received_well : (p x : ℕ) (v : Note) (y : Symbol) → p < 16 → x < 65536 → FineSymbol y
     → AllByRecursion WellFormed (receive_events p v y x)
-received_well p x Lost y h few z = (well_item Missed p y h z, tt)
-received_well p x Sound (symbol.Frame f) h few z =
-    (well_item Got p (symbol.Frame f) h z, cond_both (eqb x 0) [] [] (AllByRecursion WellFormed) (λ e. tt) (λ e. tt))
-received_well p x Sound symbol.RRdy h few z =
-    (well_item Got p symbol.RRdy h z, cond_both (eqb x 0) [] [] (AllByRecursion WellFormed) (λ e. tt) (λ e. tt))
-received_well p x Sound (symbol.Mark m) h few z = (
-  well_item Got p (symbol.Mark m) h z,
-  cond_both (eqb x 0) [] (event.MadeGood p m x ∷ []) (AllByRecursion WellFormed) (λ e. tt)
-      (λ e. let n : x ≢ 0 = eqb-false x 0 e in (well_good p m x h (omega arith) few, tt)),
-)
+received_well p x v y h few z = grind (arith, nat_tests, well_item, well_good)
 
 -- what a mark makes good fits in two bytes
 found_small : (n got x : ℕ) → n ≤ 15 → x ≤ lost_of n got → x < 65536
@@ -98,11 +87,7 @@ found_small n got x h z =
     omega (arith, below, top, z)
 
 correction_small : (s : Port) (v : Note) (y : Symbol) → s.n ≤ 15 → correction s v y < 65536
-correction_small s Lost y h = omega arith
-correction_small s Sound (symbol.Frame f) h = omega arith
-correction_small s Sound symbol.RRdy h = omega arith
-correction_small s Sound (symbol.Mark BbScS) h = found_small s.n s.frames_in.got (frames_found s) h (omega arith)
-correction_small s Sound (symbol.Mark BbScR) h = found_small s.n s.rrdys_in.got (rrdys_found s) h (omega arith)
+correction_small s v y h = grind (arith, nat_tests, found_small s.n s.frames_in.got (frames_found s), found_small s.n s.rrdys_in.got (rrdys_found s))
 
 -- a port stays fine
 module _ (s : Port) (h : FinePort s) where
@@ -122,15 +107,10 @@ module _ (s : Port) (h : FinePort s) where
   received_fine Sound (symbol.Mark BbScR) z = h
 
   sent_fine : (o : Option Symbol) → FinePort (after_send s o)
-  sent_fine None = h
-  sent_fine (Some (symbol.Frame f)) = h
-  sent_fine (Some symbol.RRdy) = h
-  sent_fine (Some (symbol.Mark BbScS)) = h
-  sent_fine (Some (symbol.Mark BbScR)) = h
+  sent_fine o = grind (arith, h)
 
   tail_fine : (fs : List Frame) → FineFrames fs → FineFrames (tail fs)
-  tail_fine [] z = tt
-  tail_fine (f ∷ fs) z = z.1
+  tail_fine fs z = grind arith
 
   unsent_fine : FinePort (unsent s)
   unsent_fine = record {
@@ -141,8 +121,7 @@ module _ (s : Port) (h : FinePort s) where
   }
 
   emptied_fine : (ws : List Frame) → FineFrames ws → FinePort (with_buffers s (emptied s.buffers ws))
-  emptied_fine [] z = h
-  emptied_fine (f ∷ fs) z = record { small = h.small; boxed = h.boxed; wait = z.1; outside = h.outside }
+  emptied_fine ws z = grind (arith, h)
 
   sent_on_fine : FinePort (sent_on s)
   sent_on_fine = emptied_fine s.buffers.waiting h.wait
@@ -195,19 +174,13 @@ FineChoice None = Unit {0}
 FineChoice (Some y) = FineSymbol y
 
 pub oldest_fine : (fs : List Frame) → FineFrames fs → FineOldest (head? fs)
-oldest_fine [] z = tt
-oldest_fine (f ∷ fs) z = z.0
+oldest_fine fs z = grind arith
 
 frame_fine : (o : Option Frame) → FineOldest o → FineChoice (frame_of o)
-frame_fine None z = tt
-frame_fine (Some f) z = z
+frame_fine o z = grind arith
 
 choice_fine : (s : Port) (o : Option Frame) → FineOldest o → FineChoice (choice s o)
-choice_fine s o z =
-    cond_both s.frames_out.due _ _ FineChoice (λ e. tt)
-    (λ e. cond_both s.rrdys_out.due _ _ FineChoice (λ e. tt)
-    (λ e. cond_both (ltb 0 s.buffers.owed) _ _ FineChoice (λ e. tt)
-    (λ e. cond_both (ltb s.credit.used s.credit.limit) _ _ FineChoice (λ e. frame_fine o z) (λ e. tt))))
+choice_fine s o z = grind (arith, nat_tests, frame_fine o z)
 
 -- a number that is among fine ones is fine
 pub number_found : (k : ℕ) (xs : List ℕ) → among k xs ≡ true → AllByRecursion FineNumber xs → FineNumber k
@@ -247,12 +220,11 @@ module _ {B : Type 0} (M : BankCalls B) where
   fine_bank c b p h here off = record {
     links = h.links;
     ports = h.ports;
-    channels = λ d z. go d z (cases_eq d p);
+    channels =
+        λ d z. ⊎_elim
+        (λ (q : d ≡ p). subst (λ (v : ℕ). FineSymbols (symbols (M.known b v).items)) (sym q) here)
+        (λ (n : d ≢ p). subst FineSymbols (sym (off d n)) (h.channels d z)) (cases_eq d p);
   }
-    where
-      go : (d : ℕ) → d < 2 * c.links → (d ≡ p) ⊎ (d ≡ p → ⊥) → FineSymbols (symbols (M.known b d).items)
-      go d z (inl q) = subst (λ (v : ℕ). FineSymbols (symbols (M.known b v).items)) (sym q) here
-      go d z (inr n) = subst FineSymbols (sym (off d n)) (h.channels d z)
 
   fine_then : (t : Turn (Chain B)) (f : Chain B → Turn (Chain B)) → FineTurn t → FineTurn (f t.state)
       → FineTurn (and_then t f)
@@ -312,12 +284,7 @@ module _ {B : Type 0} (M : BankCalls B) where
         → AllByRecursion WellFormed (freed_events links p y)
     freed_well links p (symbol.Frame f) few lt z =
         cond_both (is_end links p) [] (event.Frame Freed (behind p) f ∷ []) (AllByRecursion WellFormed) (λ e. tt)
-        (λ e. let q = or_parts (eqb p 0) (eqb p (2 * links - 1)) e in (
-          well_frame Freed (behind p) f
-              (omega
-              (arith, few, behind_below links p lt (eqb-false p 0 q.0) (eqb-false p (2 * links - 1) q.1))) z,
-          tt,
-        ))
+        (λ e. (well_frame Freed (behind p) f (grind (arith, nat_tests, behind_below links p lt)) z, tt))
     freed_well links p symbol.RRdy few lt z = tt
     freed_well links p (symbol.Mark m) few lt z = tt
 

@@ -1,7 +1,8 @@
 -- The records of one port in a log that grows.
 use Rattle.std.proofs.Common.{◌≡◌, ℕ, ◌<◌, Bool, true, false, cond, eqb, [], ◌∷◌, ◌++◌, sym, refl, ap, ◌∙◌}
-use Rattle.std.proofs.Common.{subst, append_assoc, append-nil, rules}
+use Rattle.std.proofs.Common.{subst, append_assoc, append-nil, rules, arith}
 use mathlib.Core.Path.{fun_ext}
+use Rattle.std.proofs.lemmas.Bool.Decides.{nat_tests}
 use Rattle.std.specs.List.{AllByRecursion}
 use Rattle.symbol.specs.declared.Frame.{Frame}
 use Rattle.symbol.specs.declared.Mark.{Mark as MarkIs}
@@ -39,43 +40,32 @@ At p t es = AllByRecursion (λ (e : Event). is_at p e ≡ t) es
 
 of_port_own : (p : ℕ) (es : Log) → At p true es → records p es ≡ es
 of_port_own p [] h = refl
-of_port_own p (e ∷ es) h = ap {B = Log} (λ z. cond z (e ∷ []) [] ++ records p es) h.0
-    ∙ ap {B = Log} (λ z. e ∷ z) (of_port_own p es h.1)
+of_port_own p (e ∷ es) h = grind (arith, nat_tests, of_port_own p es h.1, h.0)
 
 of_port_off : (p : ℕ) (es : Log) → At p false es → records p es ≡ []
 of_port_off p [] h = refl
-of_port_off p (e ∷ es) h = ap {B = Log} (λ z. cond z (e ∷ []) [] ++ records p es) h.0 ∙ of_port_off p es h.1
+of_port_off p (e ∷ es) h = grind (arith, nat_tests, of_port_off p es h.1, h.0)
 
 pub account_own : (p : ℕ) (l es : Log) → At p true es → account p (l ++ es) ≡ noted_all (account p l) es
-account_own p l es h = account-append p l es ∙ ap (noted_all (account p l)) (of_port_own p es h)
+account_own p l es h = cc (account-append p l es, of_port_own p es h)
 
 pub account_off : (p : ℕ) (l es : Log) → At p false es → account p (l ++ es) ≡ account p l
 account_off p l es h = account-append p l es ∙ ap (noted_all (account p l)) (of_port_off p es h)
 
 good_at : (p : ℕ) (e : Event) (t u : Bool) → is_at p e ≡ t → At p t (cond u [] (e ∷ []))
-good_at p e t true h = tt
-good_at p e t false h = (h, tt)
+good_at p e t u h = grind arith
 
 -- what a port writes of an item it takes is its own
 pub receive_at : (p x : ℕ) (t : Bool) (s : Port) (v : Note) (y : Symbol) → eqb p x ≡ t → At p t (taken_events x s v y)
-receive_at p x t s Lost y h = (h, tt)
-receive_at p x t s Sound (symbol.Frame k) h = (h, tt)
-receive_at p x t s Sound symbol.RRdy h = (h, tt)
-receive_at p x t s Sound (symbol.Mark BbScS) h =
-    (h, good_at p (event.MadeGood x BbScS (frames_found s)) t (eqb (frames_found s) 0) h)
-receive_at p x t s Sound (symbol.Mark BbScR) h =
-    (h, good_at p (event.MadeGood x BbScR (rrdys_found s)) t (eqb (rrdys_found s) 0) h)
+receive_at p x t s v y h = grind (arith, nat_tests, good_at)
 
 pub account_skip : (p : ℕ) (l es : Log) (e : Event) → is_at p e ≡ false
     → account p (l ++ (e ∷ es)) ≡ account p (l ++ es)
-account_skip p l es e h = account-append p l (e ∷ es)
-    ∙ ap (λ (z : Bool). noted_all (account p l) (cond z (e ∷ []) [] ++ records p es)) h ∙ sym (account-append p l es)
+account_skip p l es e h = grind (arith, nat_tests, account-append p l (e ∷ es), account-append p l es)
 
 pub account_first : (p : ℕ) (l es : Log) (e : Event) → is_at p e ≡ true → At p false es
     → account p (l ++ (e ∷ es)) ≡ noted (account p l) e
-account_first p l es e h off = account-append p l (e ∷ es)
-    ∙ ap (λ (z : Bool). noted_all (account p l) (cond z (e ∷ []) [] ++ records p es)) h
-    ∙ ap (λ (z : Log). noted_all (account p l) (e ∷ z)) (of_port_off p es off)
+account_first p l es e h off = grind (arith, nat_tests, account-append p l (e ∷ es), of_port_off p es off)
 
 -- what a frame that is put and a freed buffer leave of an account
 pub record SameFrames (a a' : Account) : Type 0 where
@@ -91,10 +81,7 @@ module _ (p x z : ℕ) (f : Frame) (l : Log) where
       → SameFrames a
       (noted_all a
       (cond t (event.Item Put x (symbol.Frame f) ∷ []) [] ++ (cond u (event.Frame Freed z f ∷ []) [] ++ [])))
-  put_freed a true true = search rules
-  put_freed a true false = search rules
-  put_freed a false true = search rules
-  put_freed a false false = search rules
+  put_freed a t u = grind arith
 
   abbrev both : Log
   both = event.Item Put x (symbol.Frame f) ∷ event.Frame Freed z f ∷ []
@@ -104,8 +91,7 @@ module _ (p x z : ℕ) (f : Frame) (l : Log) where
       subst (SameFrames (account p l)) (sym (account-append p l both)) (put_freed (account p l) (eqb p x) (eqb p z))
 
   freed_puts : (a : Account) (u : Bool) → (noted_all a (cond u (event.Frame Freed z f ∷ []) [] ++ [])).puts ≡ a.puts
-  freed_puts a true = refl
-  freed_puts a false = refl
+  freed_puts a u = grind arith
 
   pub put_freed_puts : eqb p x ≡ false → (account p (l ++ both)).puts ≡ (account p l).puts
   put_freed_puts e =
@@ -159,21 +145,8 @@ rooms_kept all all' l es same h k =
 
 good_rooms : (all : ℕ → ℕ) (before : Log) (x k : ℕ) (m : MarkIs) (t : Bool)
     → AllMeetRoom all before (cond t [] (event.MadeGood x m k ∷ []))
-good_rooms all before x k s true = tt
-good_rooms all before x k s false = (tt, tt)
+good_rooms all before x k s t = grind arith
 
 pub receive_rooms : (all : ℕ → ℕ) (l : Log) (x : ℕ) (s : Port) (v : Note) (y : Symbol) → MeetsRoom all l x y
     → AllMeetRoom all l (taken_events x s v y)
-receive_rooms all l x s Lost y m = (tt, tt)
-receive_rooms all l x s Sound (symbol.Frame k) m = (m, tt)
-receive_rooms all l x s Sound symbol.RRdy m = (m, tt)
-receive_rooms all l x s Sound (symbol.Mark BbScS) m = (
-  tt,
-  good_rooms all (l ++ (event.Item Got x (symbol.Mark BbScS) ∷ [])) x (frames_found s) BbScS
-      (eqb (frames_found s) 0),
-)
-receive_rooms all l x s Sound (symbol.Mark BbScR) m = (
-  tt,
-  good_rooms all (l ++ (event.Item Got x (symbol.Mark BbScR) ∷ [])) x (rrdys_found s) BbScR
-      (eqb (rrdys_found s) 0),
-)
+receive_rooms all l x s v y m = grind (arith, good_rooms)

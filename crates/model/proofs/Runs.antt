@@ -1,6 +1,6 @@
 -- Every run, from the cabling on.
 use Rattle.std.proofs.Common.{◌≡◌, ℕ, zero, suc, ◌+◌, ◌*◌, ◌/◌, ◌%◌, ◌^◌, ◌<◌, ◌≤◌, Bool, true, false, cond, ◌||◌}
-use Rattle.std.proofs.Common.{eqb, ltb, leb, ◌≢◌, ◌⊎◌, List, [], ◌∷◌, ◌++◌, length, get_or, set, replicate, Some, None}
+use Rattle.std.proofs.Common.{eqb, ltb, leb, ◌≢◌, ◌⊎◌, ⊎_elim, List, [], ◌∷◌, ◌++◌, length, get_or, set, replicate, Some, None}
 use Rattle.std.proofs.Common.{Ok, Err, Option, Result, sym, refl, ap, ◌∙◌, subst, inl, inr, append-nil, le_refl, arith}
 use Rattle.std.proofs.Common.{length-set, pow_pos}
 use native.Mathlib.Nat.{zero-mod}
@@ -190,12 +190,7 @@ module _ {B : Type 0} (M : BankCalls B) (law : (b : B) → LawfulBank M b) where
   all_idle_at : (b : B) (k d : ℕ) → all_idle M b k ≡ true → d < k → symbols (M.known b d).items ≡ []
   all_idle_at b zero d e lt = absurd (omega arith)
   all_idle_at b (suc k) d e lt =
-      go (cases_eq d k) (λ z. all_idle_at b k d (and_parts (all_idle M b k) (empty (M.known b k).items) e).0 z)
-    where
-      go : (d ≡ k) ⊎ (d ≡ k → ⊥) → (d < k → symbols (M.known b d).items ≡ []) → symbols (M.known b d).items ≡ []
-      go (inl q) r = ap (λ (v : ℕ). symbols (M.known b v).items) q
-          ∙ no_items (M.known b k).items (and_parts (all_idle M b k) (empty (M.known b k).items) e).1
-      go (inr n) r = r (omega (arith, lt, n))
+      grind (arith, nat_tests, all_idle_at b k d, no_items (M.known b k).items, cases_eq d k)
 
   -- the links of a new cabling, and what they say of the bank
   pub record Cabling (b : B) (k : ℕ) : Type 0 where
@@ -236,13 +231,10 @@ module _ {B : Type 0} (M : BankCalls B) (law : (b : B) → LawfulBank M b) where
       → (r ≡ None → Kept M l t) → Kept M l (unless_refused r c t)
   unless_kept r c t l h f = unless (Kept M l) r c t (subst (Invariant M c) (sym (append-nil l)) h) f
 
-  -- a test that refuses has not
-  pub passed : (t : Bool) (r : Refusal) (o : Option Refusal) → cond t (Some r) o ≡ None → (t ≡ false) × (o ≡ None)
-  passed true r o e = cc
-  passed false r o e = (refl, e)
-
-  pub some_links : (c : Chain B) → eqb c.links 0 ≡ false → 0 < c.links
-  some_links c e = let n : c.links ≢ 0 = eqb-false c.links 0 e in omega arith
+  -- what an inject that is not refused has found
+  pub inject_fits : (c : Chain B) (e : End) (room : ℕ) → inject_refusal M c e room ≡ None
+      → (0 < c.links) × (length (port_of c (end_port c e)).outbox.frames < 32)
+  inject_fits c e room z = grind (arith, nat_tests)
 
   no_links : (c : Chain B) (l : Log) → c.links ≡ 0 → AllMeetRoom (λ p. (port_of c p).buffers.all) [] l
       → Invariant M c l
@@ -273,7 +265,7 @@ module _ {B : Type 0} (M : BankCalls B) (law : (b : B) → LawfulBank M b) where
       go false None z w = same
       go false (Some k) z w =
           cond_both (ltb room call_bytes) (Err refusal.SheetFull) (Ok k)
-          (λ (r : Result Frame Refusal). P (collects_by M c e r)) (λ u. same) (λ u. out k (some_links c z) w)
+          (λ (r : Result Frame Refusal). P (collects_by M c e r)) (λ u. same) (λ u. out k (grind (arith, nat_tests)) w)
 
   collect_after : (c : Chain B) (l : Log) (e : End) (room : ℕ) → Invariant M c l → Kept M l (collects M c e room)
   collect_after c l e room h =
@@ -292,22 +284,25 @@ module _ {B : Type 0} (M : BankCalls B) (law : (b : B) → LawfulBank M b) where
 
   release_after : (c : Chain B) (l : Log) (e : End) (k room : ℕ) → Invariant M c l
       → release_refusal M c e k room ≡ None → Kept M l (released_at M c e k)
-  release_after c l e k room h z = go (cases_eq c.links 0)
-    where
-      go : (c.links ≡ 0) ⊎ (c.links ≡ 0 → ⊥) → Kept M l (released_at M c e k)
-      go (inl w) = no_links (released_at M c e k).state (l ++ (released_at M c e k).events) w
-          (rooms_kept (λ p. (port_of c p).buffers.all) (λ p. (port_of (released_at M c e k).state p).buffers.all) l
-          (event.Frame Freed (end_port c e) (record { number = k }) ∷ [])
-          (λ p. same_all c.ports (end_port c e) p (released (port_of c (end_port c e)) k)
-          (released_all (port_of c (end_port c e)) k)) h.room (tt, tt))
-      go (inr n) =
-          release_kept M law c l e k h (let m : c.links ≢ 0 = n in omega arith)
-          (released_out c e k room z)
+  release_after c l e k room h z =
+      ⊎_elim
+      (λ (w : c.links ≡ 0). no_links (released_at M c e k).state (l ++ (released_at M c e k).events) w
+      (rooms_kept (λ p. (port_of c p).buffers.all) (λ p. (port_of (released_at M c e k).state p).buffers.all) l
+      (event.Frame Freed (end_port c e) (record { number = k }) ∷ [])
+      (λ p. same_all c.ports (end_port c e) p (released (port_of c (end_port c e)) k)
+      (released_all (port_of c (end_port c e)) k)) h.room (tt, tt)))
+      (λ (n : c.links ≢ 0). release_kept M law c l e k h (omega (arith, n)) (released_out c e k room z))
+      (cases_eq c.links 0)
+
+  -- what a login that is not refused has asked
+  pub login_fits : (c : Chain B) (k x y m n : ℕ) → login_refusal M c k x y m n ≡ None
+      → (x ≤ 32) × (y ≤ 32) × (n ≤ 15) × (k < c.links)
+  login_fits c k x y m n z = grind (arith, nat_tests)
 
   login_after : (c : Chain B) (k x y m n : ℕ) → Fresh c → Fresh (logins M c k x y m n).state
   login_after c k x y m n h =
       unless (λ t. Fresh t.state) (login_refusal M c k x y m n) c (no_act (logs_in M c k x y n)) h
-      (λ e. login_fresh c k x y n (leb-false c.links k (passed (leb c.links k) refusal.NoLinks _ e).0) h)
+      (λ e. login_fresh c k x y n (login_fits c k x y m n e).3 h)
 
   -- every run stays within its bounds
   end_bounded : (c : Chain B) (p : ℕ) (s : Port) → Bounded c → Within c.tick c.tick s → Bounded (with_port c p s)
@@ -319,11 +314,6 @@ module _ {B : Type 0} (M : BankCalls B) (law : (b : B) → LawfulBank M b) where
 
   pub step_early : (c : Chain B) (room : ℕ) → Bounded c → step_refusal M c room ≡ None → c.tick < last_tick
   step_early c room h z = grind (arith, nat_tests)
-
-  -- what a login that is not refused has asked
-  pub login_fits : (c : Chain B) (k x y m n : ℕ) → login_refusal M c k x y m n ≡ None
-      → (x ≤ 32) × (y ≤ 32) × (n ≤ 15) × (k < c.links)
-  login_fits c k x y m n z = grind (arith, nat_tests)
 
   pub run_bounded : {b : B} {ph : Phase} {c : Chain B} {l : Log} → Run M b ph c l → Bounded c
   run_bounded {b} new = record {
@@ -346,9 +336,7 @@ module _ {B : Type 0} (M : BankCalls B) (law : (b : B) → LawfulBank M b) where
       unless (λ t. Bounded t.state) (inject_refusal M c e room) c (injected M c e) (run_bounded r)
       (λ z. end_bounded c (end_port c e) (injected_at (port_of c (end_port c e))) (run_bounded r)
       (injected_within c.tick c.tick (port_of c (end_port c e)) ((run_bounded r).ports (end_port c e))
-      (leb-false 32 (length (port_of c (end_port c e)).outbox.frames)
-      (passed (leb 32 (length (port_of c (end_port c e)).outbox.frames)) refusal.OutboxFull _
-      (passed (eqb c.links 0) refusal.NoLinks _ z).1).0)))
+      (inject_fits c e room z).1))
   run_bounded (collect {c = c} m e room r) =
       collect_cases (λ t. Bounded t.state) c e room (run_bounded r)
       (λ k some w. end_bounded c (end_port c e) (handed_out (port_of c (end_port c e))) (run_bounded r)
@@ -368,7 +356,7 @@ module _ {B : Type 0} (M : BankCalls B) (law : (b : B) → LawfulBank M b) where
   holding (start {c = c} {l = l} r) = always is_cabled c l (holding r)
   holding (inject {c = c} {l = l} e room r) =
       unless_kept (inject_refusal M c e room) c (injected M c e) l (holding r)
-      (λ z. inject_kept M law c l e (holding r) (some_links c (passed (eqb c.links 0) refusal.NoLinks _ z).0)
+      (λ z. inject_kept M law c l e (holding r) (inject_fits c e room z).0
       (few_injected c (end_port c e) (run_bounded r)))
   holding (step {c = c} {l = l} m room r) =
       moving m c _ l _ (λ h. unless_kept (step_refusal M c room) c (stepped M c) l h (λ z. step_kept M law c l h))

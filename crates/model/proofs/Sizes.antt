@@ -1,7 +1,7 @@
 -- What a step adds to a log: one tick, and no more bytes than it asks for.
 use Rattle.std.proofs.Common.{◌≡◌, ℕ, zero, suc, ◌+◌, ◌*◌, ◌≤◌, eqb, [], ◌∷◌, ◌++◌, length}
 use Rattle.std.proofs.Common.{Some, None, Option, refl, suc-mul, arith}
-use Rattle.std.proofs.lemmas.Bool.{cond_both}
+use Rattle.std.proofs.lemmas.Bool.Decides.{nat_tests}
 use Rattle.symbol.specs.declared.Item.{Item}
 use Rattle.symbol.specs.declared.Note.{Note}
 use Rattle.symbol.specs.declared.Note.TheVariants.{Sound, Lost}
@@ -36,25 +36,10 @@ pub record Small (most : ℕ) (es : Log) : Type 0 where
   pub no_tick : ticks es ≡ 0
 
 taken_small : (p x : ℕ) (v : Note) (y : Symbol) → Small 10 (receive_events p v y x)
-taken_small p x Lost (symbol.Frame f) = omega arith
-taken_small p x Lost symbol.RRdy = omega arith
-taken_small p x Lost (symbol.Mark m) = omega arith
-taken_small p x Sound (symbol.Frame f) =
-    cond_both (eqb x 0) [] [] (λ (l : Log). Small 10 (event.Item Got p (symbol.Frame f) ∷ l)) (λ e. omega arith)
-    (λ e. omega arith)
-taken_small p x Sound symbol.RRdy =
-    cond_both (eqb x 0) [] [] (λ (l : Log). Small 10 (event.Item Got p symbol.RRdy ∷ l)) (λ e. omega arith)
-    (λ e. omega arith)
-taken_small p x Sound (symbol.Mark m) =
-    cond_both (eqb x 0) [] (event.MadeGood p m x ∷ []) (λ (l : Log). Small 10 (event.Item Got p (symbol.Mark m) ∷ l))
-    (λ e. omega arith) (λ e. omega arith)
+taken_small p x v y = grind (arith, nat_tests)
 
 put_small : (links p : ℕ) (y : Symbol) → Small 15 (event.Item Put p y ∷ freed_events links p y)
-put_small links p (symbol.Frame f) =
-    cond_both (is_end links p) [] (event.Frame Freed (behind p) f ∷ [])
-    (λ (l : Log). Small 15 (event.Item Put p (symbol.Frame f) ∷ l)) (λ e. omega arith) (λ e. omega arith)
-put_small links p symbol.RRdy = omega arith
-put_small links p (symbol.Mark m) = omega arith
+put_small links p y = grind (arith, nat_tests)
 
 module _ {B : Type 0} (M : BankCalls B) where
   pub takes_small : (c : Chain B) (p : ℕ) → Small 10 (takes M c p).events

@@ -52,9 +52,7 @@ length_joined g es = length-flat_map g es ∙ sym (is_sum_by (total (λ e. lengt
 
 pub frames-append : (xs ys : List Symbol) → frames_among (xs ++ ys) ≡ frames_among xs ++ frames_among ys
 frames-append [] ys = refl
-frames-append (symbol.Frame f ∷ xs) ys = ap {B = List Frame} (λ z. f ∷ z) (frames-append xs ys)
-frames-append (symbol.RRdy ∷ xs) ys = frames-append xs ys
-frames-append (symbol.Mark m ∷ xs) ys = frames-append xs ys
+frames-append (x ∷ xs) ys = grind (arith, frames-append xs ys)
 
 -- a symbol that is no frame adds none
 pub frames_same : (ss : List Symbol) (y : Symbol) → frames_among (y ∷ []) ≡ []
@@ -79,80 +77,40 @@ adds_nothing : (t : Tally) → Adds t t 0 0 0 0
 adds_nothing t = omega arith
 
 put_adds : (r : Role) (t : Tally) → Adds t (one_put r t) (one_counted r + 0) 0 0 0
-put_adds counted t = omega arith
-put_adds mark t = omega arith
-put_adds other t = omega arith
+put_adds r t = grind arith
 
 got_adds : (r : Role) (t : Tally) → Adds t (one_got r t) 0 (one_counted r + 0) 0 0
-got_adds counted t = omega arith
-got_adds mark t = omega arith
-got_adds other t = omega arith
+got_adds r t = grind arith
 
 lost_adds : (r : Role) (t : Tally) → Adds t (one_missed r t) 0 0 (one_counted r + 0) 0
-lost_adds counted t = omega arith
-lost_adds mark t = omega arith
-lost_adds other t = omega arith
+lost_adds r t = grind arith
 
 good_adds : (r : Role) (n : ℕ) (t : Tally) → Adds t (some_good r n t) 0 0 0 (good_of_role r n)
-good_adds counted n t = omega arith
-good_adds mark n t = omega arith
-good_adds other n t = omega arith
+good_adds r n t = grind arith
 
 tally_adds : (k : Stream) (t : Tally) (e : Event)
     → Adds t (tally_after k t e) (how_many k (symbol_in Put e)) (how_many k (symbol_in Got e))
     (how_many k (symbol_in Missed e)) (good_in k e)
-tally_adds k t (event.Tick n) = adds_nothing t
-tally_adds k t (event.Item Put q s) = put_adds (role k s) t
-tally_adds k t (event.Item Got q s) = got_adds (role k s) t
-tally_adds k t (event.Item Missed q s) = lost_adds (role k s) t
-tally_adds k t (event.Frame kind q f) = adds_nothing t
-tally_adds k t (event.MadeGood q m n) = good_adds (role k (symbol.Mark m)) n t
+tally_adds k t e = grind (arith, put_adds, got_adds, lost_adds, good_adds)
 
 freed_adds : (n : ℕ) (e : Event) → by_frame one_freed as_it_was as_it_was n e ≡ n + length (frame_in Freed e)
-freed_adds n (event.Tick t) = omega arith
-freed_adds n (event.Item kind q s) = omega arith
-freed_adds n (event.Frame Freed q f) = omega arith
-freed_adds n (event.Frame Injected q f) = omega arith
-freed_adds n (event.Frame Collected q f) = omega arith
-freed_adds n (event.MadeGood q m k) = omega arith
+freed_adds n e = grind arith
 
 puts_last : (ss : List Symbol) (e : Event) → by_item last as_it_was as_it_was ss e ≡ ss ++ symbol_in Put e
-puts_last ss (event.Tick t) = sym (append-nil ss)
-puts_last ss (event.Item Put q s) = refl
-puts_last ss (event.Item Got q s) = sym (append-nil ss)
-puts_last ss (event.Item Missed q s) = sym (append-nil ss)
-puts_last ss (event.Frame kind q f) = sym (append-nil ss)
-puts_last ss (event.MadeGood q m k) = sym (append-nil ss)
+puts_last ss e = grind (arith, append-nil {A = Symbol})
 
 frame_is_last : (fs : List Frame) (s : Symbol) → frame_last fs s ≡ fs ++ frames_among (s ∷ [])
-frame_is_last fs (symbol.Frame f) = refl
-frame_is_last fs symbol.RRdy = sym (append-nil fs)
-frame_is_last fs (symbol.Mark m) = sym (append-nil fs)
+frame_is_last fs s = grind (arith, append-nil {A = Frame})
 
 lost_last : (fs : List Frame) (e : Event)
     → by_item as_it_was as_it_was frame_last fs e ≡ fs ++ frames_among (symbol_in Missed e)
-lost_last fs (event.Tick t) = sym (append-nil fs)
-lost_last fs (event.Item Put q s) = sym (append-nil fs)
-lost_last fs (event.Item Got q s) = sym (append-nil fs)
-lost_last fs (event.Item Missed q s) = frame_is_last fs s
-lost_last fs (event.Frame kind q f) = sym (append-nil fs)
-lost_last fs (event.MadeGood q m k) = sym (append-nil fs)
+lost_last fs e = grind (arith, append-nil {A = Frame}, frame_is_last)
 
 injected_last : (fs : List Frame) (e : Event) → by_frame as_it_was last as_it_was fs e ≡ fs ++ frame_in Injected e
-injected_last fs (event.Tick t) = sym (append-nil fs)
-injected_last fs (event.Item kind q s) = sym (append-nil fs)
-injected_last fs (event.Frame Freed q f) = sym (append-nil fs)
-injected_last fs (event.Frame Injected q f) = refl
-injected_last fs (event.Frame Collected q f) = sym (append-nil fs)
-injected_last fs (event.MadeGood q m k) = sym (append-nil fs)
+injected_last fs e = grind (arith, append-nil {A = Frame})
 
 collected_last : (fs : List Frame) (e : Event) → by_frame as_it_was as_it_was last fs e ≡ fs ++ frame_in Collected e
-collected_last fs (event.Tick t) = sym (append-nil fs)
-collected_last fs (event.Item kind q s) = sym (append-nil fs)
-collected_last fs (event.Frame Freed q f) = sym (append-nil fs)
-collected_last fs (event.Frame Injected q f) = sym (append-nil fs)
-collected_last fs (event.Frame Collected q f) = refl
-collected_last fs (event.MadeGood q m k) = sym (append-nil fs)
+collected_last fs e = grind (arith, append-nil {A = Frame})
 
 -- the symbols of what was taken
 taken-snoc : (ts : List Passage) (t : Passage) → taken_symbols (ts ++ (t ∷ [])) ≡ taken_symbols ts ++ (t.symbol ∷ [])
@@ -166,12 +124,7 @@ taken_good k (t ∷ u ∷ ts) = ap {B = List Symbol} (λ z. t.symbol ∷ z) (tak
 
 took_symbols : (ts : List Passage) (e : Event)
     → taken_symbols (took ts e) ≡ by_item as_it_was last last (taken_symbols ts) e
-took_symbols ts (event.Tick t) = refl
-took_symbols ts (event.Item Put q s) = refl
-took_symbols ts (event.Item Got q s) = taken-snoc ts _
-took_symbols ts (event.Item Missed q s) = taken-snoc ts _
-took_symbols ts (event.Frame kind q f) = refl
-took_symbols ts (event.MadeGood q m k) = taken_good k ts
+took_symbols ts e = grind (arith, taken-snoc, taken_good)
 
 took_taken : (a : Account) (es : Log) → taken_symbols a.takes ≡ a.taken
     → taken_symbols (noted_all a es).takes ≡ (noted_all a es).taken

@@ -87,16 +87,7 @@ abbrev TakenBy : Account → Type 0
 TakenBy a = Taken a.taken a.got a.lost
 
 taken_kept : (a : Account) (e : Event) → TakenBy a → TakenBy (noted a e)
-taken_kept a (event.Tick t) h = h
-taken_kept a (event.Item Put q s) h = h
-taken_kept a (event.Item Got q (symbol.Frame f)) h = frame_got a.taken a.got a.lost h f
-taken_kept a (event.Item Got q symbol.RRdy) h = no_frame a.taken a.got a.lost h symbol.RRdy refl
-taken_kept a (event.Item Got q (symbol.Mark m)) h = no_frame a.taken a.got a.lost h (symbol.Mark m) refl
-taken_kept a (event.Item Missed q (symbol.Frame f)) h = frame_lost a.taken a.got a.lost h f
-taken_kept a (event.Item Missed q symbol.RRdy) h = no_frame a.taken a.got a.lost h symbol.RRdy refl
-taken_kept a (event.Item Missed q (symbol.Mark m)) h = no_frame a.taken a.got a.lost h (symbol.Mark m) refl
-taken_kept a (event.Frame kind q f) h = h
-taken_kept a (event.MadeGood q m k) h = h
+taken_kept a e h = grind (arith, frame_got a.taken a.got a.lost h, frame_lost a.taken a.got a.lost h, no_frame a.taken a.got a.lost h)
 
 taken_all : (a : Account) (l : Log) → TakenBy a → TakenBy (noted_all a l)
 taken_all a [] h = h
@@ -130,24 +121,19 @@ up_to_in (suc n) k h e =
 
 module _ {B : Type 0} (M : BankCalls B) (c : Chain B) where
   hop_first : (e : End) → hop c e 0 ≡ end_port c e
-  hop_first West = omega arith
-  hop_first East = omega arith
+  hop_first e = grind arith
 
   pub hop_below : (e : End) (i : ℕ) → i < c.links → hop c e i < 2 * c.links
-  hop_below West i h = omega arith
-  hop_below East i h = omega arith
+  hop_below e i h = grind arith
 
   hop_inner : (e : End) (i : ℕ) → suc i < c.links → (hop c e (suc i) ≢ 0) × (hop c e (suc i) ≢ 2 * c.links - 1)
-  hop_inner West i h = (λ d. omega arith, λ d. omega arith)
-  hop_inner East i h = (λ d. omega arith, λ d. omega arith)
+  hop_inner e i h = grind arith
 
   hop_next : (e : End) (i : ℕ) → suc i < c.links → behind (hop c e (suc i)) ≡ taker c e i
-  hop_next West i h = omega (arith, behind_is (2 * suc i), facing_is (2 * i))
-  hop_next East i h = omega (arith, behind_is (2 * c.links - 1 - 2 * suc i), facing_is (2 * c.links - 1 - 2 * i))
+  hop_next e i h = grind (arith, behind_is, facing_is)
 
   hop_last : (e : End) (i : ℕ) → suc i ≡ c.links → taker c e i ≡ end_port c (opposite e)
-  hop_last West i h = omega (arith, facing_is (2 * i))
-  hop_last East i h = omega (arith, facing_is (2 * c.links - 1 - 2 * i))
+  hop_last e i h = grind (arith, facing_is)
 
   module _ (l : Log) (h : Invariant M c l) (some : 0 < c.links) (e : End) where
     -- what was put on the i-th direction is taken or on it
