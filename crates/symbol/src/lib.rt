@@ -62,6 +62,7 @@ impl Symbol {
 }
 
 impl SymbolKind {
+    // By name and not by a From, which would not say which number of a kind is meant.
     pub fn letter(self) -> u8
         ensures { result ≡ letter self }
     {
