@@ -349,11 +349,12 @@ module _ {B : Type 0} (M : BankCalls B) (law : (b : B) → LawfulBank M b) where
     meets : (y : Symbol) → Loop (port_of c x) (port_of c w) (on M c x) (y ∷ symbols is) (account x l) (account w l)
         → Loop (port_of c w) (port_of c x) (y ∷ symbols is) (on M c x) (account w l) (account x l)
         → MeetsRoom (λ p. (port_of c p).buffers.all) l x y
-    meets (symbol.Frame k) a b =
-        frame_room (port_of c w) (port_of c x) k (symbols is) (on M c x) (account w l) (account x l) b
-    meets symbol.RRdy a b = rrdy_room (port_of c x) (port_of c w) (on M c x) (symbols is) (account x l) (account w l) a
-    meets (symbol.Mark BbScS) a b = tt
-    meets (symbol.Mark BbScR) a b = tt
+    meets y a b =
+        grind (
+          arith,
+          frame_room (port_of c w) (port_of c x),
+          rrdy_room (port_of c x) (port_of c w),
+        )
 
     pub take_kept : Invariant M
         (with_port (with_bank c (M.take c.bank w)) x (received (port_of c x) i.note i.symbol))
@@ -418,12 +419,7 @@ module _ {B : Type 0} (M : BankCalls B) (law : (b : B) → LawfulBank M b) where
   -- a port puts what is no frame
   quiet_put : (x : ℕ) (s : Port) (a : Account) (y : Symbol) → frames_among (y ∷ []) ≡ []
       → Quiet s (has_sent s y) a (noted a (event.Item Put x y))
-  quiet_put x s a (symbol.Frame k) none = absurd cc
-  quiet_put x s a symbol.RRdy none = unmoved _ _ _ _ (ap (shelf_by s a) (frames_same a.puts symbol.RRdy none)) (λ z. z)
-  quiet_put x s a (symbol.Mark BbScS) none =
-      unmoved _ _ _ _ (ap (shelf_by s a) (frames_same a.puts (symbol.Mark BbScS) none)) (λ z. z)
-  quiet_put x s a (symbol.Mark BbScR) none =
-      unmoved _ _ _ _ (ap (shelf_by s a) (frames_same a.puts (symbol.Mark BbScR) none)) (λ z. z)
+  quiet_put x s a y none = grind (arith, frames_same a.puts y none)
 
   -- an end puts the oldest frame of its outbox
   end_act : (x : ℕ) (inner : Type 0) (s : Port) (a : Account) (k : Frame) (ks : List Frame) → (inner → ⊥)

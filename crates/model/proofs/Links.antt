@@ -20,9 +20,7 @@ module _ {B : Type 0} (M : BankCalls B) where
   by_item c p o = grind arith
 
   pub takes_still : (c : Chain B) (p : ℕ) → Still c (takes M c p).state
-  takes_still c p =
-      let h = by_item (with_bank c (M.take c.bank (facing p))) p (handed (M.known c.bank (facing p))) in
-      record { links = h.links; tick = h.tick }
+  takes_still c p = grind (arith, by_item)
 
   drawn_still : (c : Chain B) (p : ℕ) (s : Symbol) → Still c (drawn M c p s)
   drawn_still c p s = grind (arith, nat_tests)
@@ -31,8 +29,7 @@ module _ {B : Type 0} (M : BankCalls B) where
   by_symbol c p o = grind (arith, drawn_still)
 
   pub sends_still : (c : Chain B) (p : ℕ) → Still c (sends M c p).state
-  sends_still c p = let h = by_symbol (with_port c p (after_send (port_of c p) (sent M c p))) p (sent M c p) in
-      record { links = h.links; tick = h.tick }
+  sends_still c p = grind (arith, by_symbol)
 
 pub each_still : {B : Type 0} (f : Chain B → ℕ → Turn (Chain B)) → ((c : Chain B) (p : ℕ) → Still c (f c p).state)
     → (c : Chain B) (k : ℕ) → Still c (each_port f k c).state

@@ -3,6 +3,7 @@
 use Rattle.std.proofs.Common.{◌≡◌, ℕ, ◌+◌, ◌%◌, ◌^◌, ◌<◌, ◌≤◌, min, Bool, true, false, cond, ◌&&◌, ◌||◌, eqb, ltb}
 use Rattle.std.proofs.Common.{List, [], ◌∷◌, ◌++◌, sym, refl, ap, ◌∙◌, subst, append_assoc, add-zero, zero-add, arith}
 use native.Mathlib.Nat.{mod-le}
+use Rattle.std.proofs.lemmas.Bool.Decides.{nat_tests}
 use Rattle.std.proofs.lemmas.Bool.{cond-false, eqb-true, ne_eqb}
 use Rattle.symbol.specs.declared.Frame.{Frame}
 use Rattle.symbol.specs.declared.Mark.TheVariants.{BbScS, BbScR}
@@ -170,8 +171,7 @@ module _ (f : ℕ → ℕ → List Passage → Account) (a : Account) (y : Symbo
 frames_account : (at : ℕ) (a : Account) (k : ℕ) (t : Bool) → eqb k 0 ≡ t
     → noted_all (noted a (event.Item Got at (symbol.Mark BbScS))) (cond t [] (event.MadeGood at BbScS k ∷ []))
     ≡ frames_marked a (a.frames.losses.good + k) k (mark_taken a (symbol.Mark BbScS) k)
-frames_account at a k true e = none_good (frames_marked a) a (symbol.Mark BbScS) a.frames.losses.good k e
-frames_account at a k false e = some_good (frames_marked a) a (symbol.Mark BbScS) a.frames.losses.good k
+frames_account at a k t e = grind (arith, nat_tests, none_good (frames_marked a) a (symbol.Mark BbScS) a.frames.losses.good k, some_good (frames_marked a) a (symbol.Mark BbScS) a.frames.losses.good k)
 
 rrdys_account : (at : ℕ) (a : Account) (k : ℕ) (t : Bool) → eqb k 0 ≡ t
     → noted_all (noted a (event.Item Got at (symbol.Mark BbScR))) (cond t [] (event.MadeGood at BbScR k ∷ []))
@@ -200,26 +200,17 @@ module _ (at : ℕ) (s r : Port) (fwd back : List Symbol) (a b : Account) where
 
   pub receiver_misses : (y : Symbol) → Loop s r (y ∷ fwd) back a b
       → Loop s (missed r y) fwd back a (noted b (event.Item Missed at y))
-  receiver_misses (symbol.Frame k) h =
-      loop_by (omega (arith, h)) (lose_counted _ _ _ _ _ h.frames) h.rrdys (taken_next _ _ _ _ h.order)
-  receiver_misses symbol.RRdy h =
-      loop_by (omega (arith, h)) (take_other _ _ _ _ _ h.frames) h.rrdys (taken_next _ _ _ _ h.order)
-  receiver_misses (symbol.Mark BbScS) h =
-      loop_by (omega (arith, h)) (lose_mark _ _ _ _ _ h.frames) h.rrdys (taken_next _ _ _ _ h.order)
-  receiver_misses (symbol.Mark BbScR) h =
-      loop_by (omega (arith, h)) (take_other _ _ _ _ _ h.frames) h.rrdys (taken_next _ _ _ _ h.order)
+  receiver_misses y h = grind (arith, h, take_other, lose_mark, lose_counted, append_assoc {A = Symbol})
 
   -- a frame, kept or dropped, is nothing to the loop in which the port sends
   sender_holds : (k : Frame) (t : Bool) → Loop s r fwd back a b
       → Loop (cond t s (frame_held s k)) r fwd back (noted a (event.Item Got at (symbol.Frame k))) b
-  sender_holds k true h = h
-  sender_holds k false h = h
+  sender_holds k t h = grind (arith, h)
 
   sender_corrects : (k : ℕ) (t : Bool) → Loop s r fwd back a b
       → Loop (frames_corrected s) r fwd back
       (noted_all (noted a (event.Item Got at (symbol.Mark BbScS))) (cond t [] (event.MadeGood at BbScS k ∷ []))) b
-  sender_corrects k true h = h
-  sender_corrects k false h = h
+  sender_corrects k t h = grind (arith, h)
 
   -- R_RDYs found lost: as many as were, and never more than the credit in use
   rrdys_found_is : Loop s r fwd (symbol.Mark BbScR ∷ back) a b → rrdys_found s ≡ lost_of s.n s.rrdys_in.got
@@ -254,14 +245,12 @@ module _ (at : ℕ) (s r : Port) (fwd back : List Symbol) (a b : Account) where
 
   receiver_credits : (t : Bool) → Loop s r fwd back a (with_taken b symbol.RRdy)
       → Loop s (cond t r (credit_back r)) fwd back a (noted b (event.Item Got at symbol.RRdy))
-  receiver_credits true h = h
-  receiver_credits false h = h
+  receiver_credits t h = grind (arith, h)
 
   receiver_corrects : (k : ℕ) (t : Bool) → Loop s r fwd back a (with_taken b (symbol.Mark BbScR))
       → Loop s (rrdys_corrected r) fwd back a
       (noted_all (noted b (event.Item Got at (symbol.Mark BbScR))) (cond t [] (event.MadeGood at BbScR k ∷ [])))
-  receiver_corrects k true h = h
-  receiver_corrects k false h = h
+  receiver_corrects k t h = grind (arith, h)
 
   -- frames found lost: as many as were, and never more than the free buffers
   frames_found_is : Loop s r (symbol.Mark BbScS ∷ fwd) back a b → frames_found r ≡ lost_of s.n r.frames_in.got
@@ -369,10 +358,7 @@ HasRoom r (symbol.Mark BbScR) = Unit {0}
 
 pub room : (s r : Port) (fwd back : List Symbol) (a b : Account) (y : Symbol) → Loop s r (y ∷ fwd) back a b
     → HasRoom r y
-room s r fwd back a b (symbol.Frame k) h = ne_eqb _ _ (λ e. omega (arith, h))
-room s r fwd back a b symbol.RRdy h = tt
-room s r fwd back a b (symbol.Mark BbScS) h = tt
-room s r fwd back a b (symbol.Mark BbScR) h = tt
+room s r fwd back a b y h = grind (arith, nat_tests, h)
 
 -- by the records, a frame under way has a free buffer and an R_RDY under way a credit in use
 pub frame_room : (s r : Port) (k : Frame) (fwd back : List Symbol) (a b : Account)

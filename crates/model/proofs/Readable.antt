@@ -113,12 +113,7 @@ module _ (s : Port) (h : FinePort s) where
   tail_fine fs z = grind arith
 
   unsent_fine : FinePort (unsent s)
-  unsent_fine = record {
-    small = h.small;
-    boxed = tail_fine s.outbox.frames h.boxed;
-    wait = h.wait;
-    outside = h.outside;
-  }
+  unsent_fine = grind (arith, h, tail_fine s.outbox.frames)
 
   emptied_fine : (ws : List Frame) → FineFrames ws → FinePort (with_buffers s (emptied s.buffers ws))
   emptied_fine ws z = grind (arith, h)
@@ -127,42 +122,23 @@ module _ (s : Port) (h : FinePort s) where
   sent_on_fine = emptied_fine s.buffers.waiting h.wait
 
   lent_fine : (ws : List Frame) → FineFrames ws → FinePort (with_buffers s (lent_out s.buffers ws))
-  lent_fine [] z = h
-  lent_fine (f ∷ fs) z = record {
-    small = h.small;
-    boxed = h.boxed;
-    wait = z.1;
-    outside = All-append FineNumber s.buffers.out (f.number ∷ []) h.outside (z.0, tt);
-  }
+  lent_fine ws z = grind (arith, h, All-append FineNumber s.buffers.out)
 
   pub handed_out_fine : FinePort (handed_out s)
   handed_out_fine = lent_fine s.buffers.waiting h.wait
 
   without_fine : (k : ℕ) (ks : List ℕ) → AllByRecursion FineNumber ks → AllByRecursion FineNumber (without k ks)
   without_fine k [] z = tt
-  without_fine k (x ∷ xs) z =
-      cond_both (eqb x k) (without k xs) (x ∷ without k xs) (AllByRecursion FineNumber) (λ e. without_fine k xs z.1)
-      (λ e. (z.0, without_fine k xs z.1))
+  without_fine k (x ∷ xs) z = grind (arith, nat_tests, without_fine k xs)
 
   pub released_fine : (k : ℕ) → FinePort (released s k)
-  released_fine k =
-      cond_both (among k s.buffers.out) _ _ (λ (b : Buffers). FinePort (with_buffers s b)) (λ e. record {
-        small = h.small;
-        boxed = h.boxed;
-        wait = h.wait;
-        outside = without_fine k s.buffers.out h.outside;
-      }) (λ e. h)
+  released_fine k = grind (arith, nat_tests, h, without_fine k s.buffers.out)
 
   pub next_fine : FineNumber (next_frame s).number
   next_fine = (omega arith, omega arith)
 
   pub injected_fine : FinePort (injected_at s)
-  injected_fine = record {
-    small = h.small;
-    boxed = All-append (λ g. FineNumber g.number) s.outbox.frames (next_frame s ∷ []) h.boxed (next_fine, tt);
-    wait = h.wait;
-    outside = h.outside;
-  }
+  injected_fine = grind (arith, h, next_fine, All-append (λ (g : Frame). FineNumber g.number) s.outbox.frames)
 
 -- what a port chooses to send is fine
 abbrev pub FineOldest : Option Frame → Type 0
@@ -265,10 +241,7 @@ module _ {B : Type 0} (M : BankCalls B) where
             }
 
     source_fine : (c : Chain B) (p : ℕ) → Fine c → FineOldest (source M c p)
-    source_fine c p h =
-        cond_both (is_end c.links p) _ _ FineOldest
-        (λ e. oldest_fine (port_of c p).outbox.frames (h.ports p).boxed)
-        (λ e. oldest_fine (port_of c (behind p)).buffers.waiting (h.ports (behind p)).wait)
+    source_fine c p h = grind (arith, nat_tests, oldest_fine, h.ports p, h.ports (behind p))
 
     drawn_fine : (c : Chain B) (p : ℕ) (y : Symbol) → Fine c → Fine (drawn M c p y)
     drawn_fine c p (symbol.Frame f) h =
@@ -282,11 +255,7 @@ module _ {B : Type 0} (M : BankCalls B) where
 
     freed_well : (links p : ℕ) (y : Symbol) → links ≤ 8 → p < 2 * links → FineSymbol y
         → AllByRecursion WellFormed (freed_events links p y)
-    freed_well links p (symbol.Frame f) few lt z =
-        cond_both (is_end links p) [] (event.Frame Freed (behind p) f ∷ []) (AllByRecursion WellFormed) (λ e. tt)
-        (λ e. (well_frame Freed (behind p) f (grind (arith, nat_tests, behind_below links p lt)) z, tt))
-    freed_well links p symbol.RRdy few lt z = tt
-    freed_well links p (symbol.Mark m) few lt z = tt
+    freed_well links p y few lt z = grind (arith, nat_tests, well_frame Freed (behind p), behind_below links p lt)
 
     abbrev with_sent : Chain B → ℕ → Option Symbol → Chain B
     with_sent c p o = with_port c p (after_send (port_of c p) o)

@@ -43,18 +43,10 @@ put_small links p y = grind (arith, nat_tests)
 
 module _ {B : Type 0} (M : BankCalls B) where
   pub takes_small : (c : Chain B) (p : ℕ) → Small 10 (takes M c p).events
-  takes_small c p = go (handed (M.known c.bank (facing p)))
-    where
-      go : (o : Option Item) → Small 10 (takes_item M (with_bank c (M.take c.bank (facing p))) p o).events
-      go None = omega arith
-      go (Some i) = taken_small p (correction (port_of c p) i.note i.symbol) i.note i.symbol
+  takes_small c p = grind (arith, nat_tests, taken_small p)
 
   pub sends_small : (c : Chain B) (p : ℕ) → Small 15 (sends M c p).events
-  sends_small c p = go (sent M c p)
-    where
-      go : (o : Option Symbol) → Small 15 (sends_symbol M (with_port c p (after_send (port_of c p) o)) p o).events
-      go None = omega arith
-      go (Some y) = put_small c.links p y
+  sends_small c p = grind (arith, nat_tests, put_small c.links p)
 
   each_small : (most : ℕ) (f : Chain B → ℕ → Turn (Chain B)) → ((c : Chain B) (p : ℕ) → Small most (f c p).events)
       → (c : Chain B) (k : ℕ) → Small (k * most) (each_port f k c).events

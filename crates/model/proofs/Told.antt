@@ -43,8 +43,7 @@ how_many-append k (x ∷ xs) ys = omega (arith, how_many-append k xs ys)
 how_many_joined : (k : Stream) (g : Event → List Symbol) (es : Log)
     → how_many k (flat_map g es) ≡ total (λ e. how_many k (g e)) es
 how_many_joined k g [] = refl
-how_many_joined k g (e ∷ es) = how_many-append k (g e) (flat_map g es)
-    ∙ ap (λ (z : ℕ). how_many k (g e) + z) (how_many_joined k g es)
+how_many_joined k g (e ∷ es) = grind (arith, how_many-append k (g e) (flat_map g es), how_many_joined k g es)
 
 pub length_joined : {X : Type 0} (g : Event → List X) (es : Log)
     → length (flat_map g es) ≡ total (λ e. length (g e)) es
@@ -63,8 +62,7 @@ frames_same ss y e = frames-append ss (y ∷ []) ∙ ap {B = List Frame} (λ z. 
 frames_joined : (g : Event → List Symbol) (es : Log)
     → frames_among (flat_map g es) ≡ flat_map (λ e. frames_among (g e)) es
 frames_joined g [] = refl
-frames_joined g (e ∷ es) = frames-append (g e) (flat_map g es)
-    ∙ ap {B = List Frame} (λ z. frames_among (g e) ++ z) (frames_joined g es)
+frames_joined g (e ∷ es) = grind (arith, frames-append (g e) (flat_map g es), frames_joined g es)
 
 -- a tally after one more record
 pub record Adds (t t' : Tally) (put got lost good : ℕ) : Type 0 where
