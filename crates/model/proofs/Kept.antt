@@ -1,13 +1,13 @@
 -- What holds of a chain and the log of its run, and that each act of a port keeps it.
-use Rattle.std.proofs.Common.{◌≡◌, ℕ, ◌+◌, ◌-◌, ◌*◌, ◌<◌, ◌≤◌, min, Bool, true, false, cond, eqb, ltb, ◌≢◌, ◌⊎◌, ⊎_elim, List}
+use Rattle.std.proofs.Common.{◌≡◌, ℕ, ◌+◌, ◌-◌, ◌*◌, ◌<◌, ◌≤◌, min, Bool, true, false, cond, eqb, ltb, ◌≢◌, ◌⊎◌, ⊎_elim}
+use Rattle.std.proofs.Common.{List}
 use Rattle.std.proofs.Common.{[], ◌∷◌, ◌++◌, length, set, Some, None, Option, sym, refl, ap, ◌∙◌, subst, inl, inr}
 use Rattle.std.proofs.Common.{append_assoc, append-nil, arith, length-append, length-set, get_or-set_other}
 use Rattle.std.proofs.Common.{get_or-set_same, set-set}
 use mathlib.Core.Path.{transport}
 use lib.Seq.{set-get_or, set_comm}
-use Rattle.std.proofs.lemmas.Bool.{cond-false, eqb-true, eqb-false, eq-eqb, ne_eqb, cases_eq, ltb-true, or_cases}
+use Rattle.std.proofs.lemmas.Bool.{cond-false, eq-eqb, ne_eqb, cases_eq, ltb-true}
 use Rattle.std.proofs.lemmas.Bool.Decides.{nat_tests}
-use Rattle.std.proofs.lemmas.Bool.{or_parts}
 use Rattle.ring.specs.Queue.{head?, tail}
 use Rattle.symbol.specs.declared.Frame.{Frame}
 use Rattle.symbol.specs.declared.Item.{Item}
@@ -574,14 +574,14 @@ module _ {B : Type 0} (M : BankCalls B) (law : (b : B) → LawfulBank M b) where
     passed p q pl m0 m1 f =
         ⊎_elim
         (λ (e : p ≡ x).
-            let qz : q ≡ z = sym f ∙ ap behind e ∙ bx in
-            transport
-            (λ i. (account (sym qz i) both_log).got
-            ≡ frames_among (account (sym e i) both_log).puts ++ (port_of sent_by
-            (sym qz i)).buffers.waiting) x_passed)
+        let qz : q ≡ z = sym f ∙ ap behind e ∙ bx in
+        transport
+        (λ i. (account (sym qz i) both_log).got
+        ≡ frames_among (account (sym e i) both_log).puts ++ (port_of sent_by
+        (sym qz i)).buffers.waiting) x_passed)
         (λ (n : p ≢ x). (same_frames q).got ∙ h.passed_on p q pl m0 m1 f
-            ∙ (λ i. frames_among (sym (same_puts p n) i) ++ sym
-            (still_waits q (λ d. n (behind_one p x m0 n0 (f ∙ d ∙ sym bx)))) i))
+        ∙ (λ i. frames_among (sym (same_puts p n) i) ++ sym
+        (still_waits q (λ d. n (behind_one p x m0 n0 (f ∙ d ∙ sym bx)))) i))
         (cases_eq p x)
 
     pub inner_put_kept : Invariant M sent_by both_log

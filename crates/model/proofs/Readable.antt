@@ -1,10 +1,10 @@
 -- Every record of a run is well-formed, so its log reads back as its events.
-use Rattle.std.proofs.Common.{◌≡◌, ℕ, zero, suc, ◌+◌, ◌-◌, ◌*◌, ◌^◌, ◌<◌, ◌≤◌, Bool, true, false, cond, ◌&&◌, ◌||◌}
-use Rattle.std.proofs.Common.{eqb, ltb, ◌≢◌, ⊎_elim, List, [], ◌∷◌, ◌++◌, Some, None, Option, sym, refl, subst, inl, inr}
+use Rattle.std.proofs.Common.{◌≡◌, ℕ, zero, suc, ◌+◌, ◌-◌, ◌*◌, ◌^◌, ◌<◌, ◌≤◌, Bool, true, false, cond, ◌&&◌}
+use Rattle.std.proofs.Common.{eqb, ◌≢◌, ⊎_elim, List, [], ◌∷◌, ◌++◌, Some, None, Option, sym, refl, subst}
 use Rattle.std.proofs.Common.{mod-lt, arith, pow_pos, pow_mono}
 use Rattle.std.proofs.ByRecursion.{All-append}
 use Rattle.std.proofs.lemmas.Bool.Decides.{nat_tests}
-use Rattle.std.proofs.lemmas.Bool.{cond_both, lt-ltb, eqb-false, eqb-true, cases_eq, or_parts, false≢true}
+use Rattle.std.proofs.lemmas.Bool.{cond_both, lt-ltb, cases_eq, false≢true}
 use Rattle.std.specs.List.{AllByRecursion}
 use Rattle.ring.specs.Queue.{head?, tail}
 use Rattle.symbol.specs.declared.Frame.{Frame}
@@ -19,10 +19,10 @@ use Rattle.eventlog.specs.declared.event.Event.TheVariants as event
 use Rattle.eventlog.specs.declared.event.FrameKind.{FrameKind}
 use Rattle.eventlog.specs.declared.event.FrameKind.TheVariants.{Freed}
 use Rattle.eventlog.specs.declared.event.ItemKind.{ItemKind}
-use Rattle.eventlog.specs.declared.event.ItemKind.TheVariants.{Put, Got, Lost as Missed}
+use Rattle.eventlog.specs.declared.event.ItemKind.TheVariants.{Put}
 use Rattle.reader.specs.Reading.{WellFormed}
 use Rattle.bank.specs.Bank.{BankCalls, LawfulBank}
-use Rattle.port.specs.Port.{Buffers, Port, Turn, and_then, logged_in, lost_of, frames_found, rrdys_found, correction, is_full}
+use Rattle.port.specs.Port.{Port, Turn, and_then, logged_in, lost_of, frames_found, rrdys_found, correction, is_full}
 use Rattle.port.specs.Port.{frame_held, credit_back, received, receive_events, frame_of, choice, after_send, emptied}
 use Rattle.port.specs.Port.{sent_on, unsent, with_buffers, lent_out, handed_out, among, without, released}
 use Rattle.port.specs.Port.{next_frame, injected_at}
@@ -87,7 +87,13 @@ found_small n got x h z =
     omega (arith, below, top, z)
 
 correction_small : (s : Port) (v : Note) (y : Symbol) → s.n ≤ 15 → correction s v y < 65536
-correction_small s v y h = grind (arith, nat_tests, found_small s.n s.frames_in.got (frames_found s), found_small s.n s.rrdys_in.got (rrdys_found s))
+correction_small s v y h =
+    grind (
+      arith,
+      nat_tests,
+      found_small s.n s.frames_in.got (frames_found s),
+      found_small s.n s.rrdys_in.got (rrdys_found s),
+    )
 
 -- a port stays fine
 module _ (s : Port) (h : FinePort s) where

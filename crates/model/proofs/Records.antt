@@ -1,21 +1,19 @@
 -- The records of one port in a log that grows.
 use Rattle.std.proofs.Common.{◌≡◌, ℕ, ◌<◌, Bool, true, false, cond, eqb, [], ◌∷◌, ◌++◌, sym, refl, ap, ◌∙◌}
-use Rattle.std.proofs.Common.{subst, append_assoc, append-nil, rules, arith}
+use Rattle.std.proofs.Common.{subst, append_assoc, append-nil, arith}
 use mathlib.Core.Path.{fun_ext}
 use Rattle.std.proofs.lemmas.Bool.Decides.{nat_tests}
 use Rattle.std.specs.List.{AllByRecursion}
 use Rattle.symbol.specs.declared.Frame.{Frame}
 use Rattle.symbol.specs.declared.Mark.{Mark as MarkIs}
-use Rattle.symbol.specs.declared.Mark.TheVariants.{BbScS, BbScR}
 use Rattle.symbol.specs.declared.Note.{Note}
-use Rattle.symbol.specs.declared.Note.TheVariants.{Sound, Lost}
 use Rattle.symbol.specs.declared.Symbol.{Symbol}
 use Rattle.symbol.specs.declared.Symbol.TheVariants as symbol
 use Rattle.eventlog.specs.declared.event.Event.{Event}
 use Rattle.eventlog.specs.declared.event.Event.TheVariants as event
 use Rattle.eventlog.specs.declared.event.FrameKind.TheVariants.{Freed}
 use Rattle.eventlog.specs.declared.event.ItemKind.TheVariants.{Put, Got, Lost as Missed}
-use Rattle.port.specs.Port.{Port, frames_found, rrdys_found}
+use Rattle.port.specs.Port.{Port}
 use Rattle.model.specs.Run.{Log}
 use Rattle.model.specs.Figures.{is_at, records}
 use Rattle.model.proofs.Accounts.{Account, noted, noted_all, account, no_account, buffers_in_use, credit_used}

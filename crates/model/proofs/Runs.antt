@@ -1,12 +1,13 @@
 -- Every run, from the cabling on.
-use Rattle.std.proofs.Common.{◌≡◌, ℕ, zero, suc, ◌+◌, ◌*◌, ◌/◌, ◌%◌, ◌^◌, ◌<◌, ◌≤◌, Bool, true, false, cond, ◌||◌}
-use Rattle.std.proofs.Common.{eqb, ltb, leb, ◌≢◌, ◌⊎◌, ⊎_elim, List, [], ◌∷◌, ◌++◌, length, get_or, set, replicate, Some, None}
+use Rattle.std.proofs.Common.{◌≡◌, ℕ, zero, suc, ◌+◌, ◌*◌, ◌/◌, ◌^◌, ◌<◌, ◌≤◌, Bool, true, false, cond}
+use Rattle.std.proofs.Common.{eqb, ltb, ◌≢◌, ◌⊎◌, ⊎_elim, List, [], ◌∷◌, ◌++◌, length, get_or, set, replicate, Some}
+use Rattle.std.proofs.Common.{None}
 use Rattle.std.proofs.Common.{Ok, Err, Option, Result, sym, refl, ap, ◌∙◌, subst, inl, inr, append-nil, le_refl, arith}
 use Rattle.std.proofs.Common.{length-set, pow_pos}
 use native.Mathlib.Nat.{zero-mod}
 use lib.ListN.{length-replicate}
 use Rattle.std.proofs.lemmas.Bool.Decides.{nat_tests}
-use Rattle.std.proofs.lemmas.Bool.{cond_both, false≢true, eqb-false, cases_eq, leb-true, leb-false, and_parts, or_parts, ltb-false}
+use Rattle.std.proofs.lemmas.Bool.{cond_both, false≢true, cases_eq}
 use Rattle.ring.specs.Queue.{head?, tail, empty}
 use Rattle.symbol.specs.declared.Frame.{Frame}
 use Rattle.symbol.specs.declared.Item.{Item}
@@ -19,7 +20,7 @@ use Rattle.symbol.specs.declared.end.End.{End}
 use Rattle.model.specs.declared.Refusal.{Refusal}
 use Rattle.model.specs.declared.Refusal.TheVariants as refusal
 use Rattle.model.specs.Chain.{injected, call_bytes, last_tick, Chain, port_of, with_port, end_port, all_idle}
-use Rattle.model.specs.Chain.{cabled_links, cabled, stepped, from_oldest, collectable, collects_by, collects}
+use Rattle.model.specs.Chain.{cabled_links, cabled, stepped, from_oldest, collects_by, collects}
 use Rattle.model.specs.Chain.{released_at, logs_in, logins, step_refusal, inject_refusal, release_refusal}
 use Rattle.model.specs.Chain.{login_refusal, unless_refused, symbols, on}
 use Rattle.model.specs.Run.{new, login, start, inject, step, collect, release, drain, Log, Phase, is_cabled}
@@ -383,8 +384,8 @@ module _ {B : Type 0} (M : BankCalls B) (law : (b : B) → LawfulBank M b) where
   pub run_ticks : {b : B} {ph : Phase} {c : Chain B} {l : Log} → Run M b ph c l → c.tick ≡ ticks l
   run_ticks new = refl
   run_ticks (login {c = c} k x y m n r) =
-      unless (λ t. t.state.tick ≡ c.tick) (login_refusal M c k x y m n) c (no_act (logs_in M c k x y n)) refl (λ e. refl)
-      ∙ run_ticks r
+      unless (λ t. t.state.tick ≡ c.tick) (login_refusal M c k x y m n) c (no_act (logs_in M c k x y n)) refl
+      (λ e. refl) ∙ run_ticks r
   run_ticks (start r) = run_ticks r
   run_ticks (step {c = c} {l = l} m room r) =
       unless_ticks (step_refusal M c room) c (stepped M c) l (run_ticks r)

@@ -1,22 +1,17 @@
 -- What a step adds to a log: one tick, and no more bytes than it asks for.
-use Rattle.std.proofs.Common.{◌≡◌, ℕ, zero, suc, ◌+◌, ◌*◌, ◌≤◌, eqb, [], ◌∷◌, ◌++◌, length}
-use Rattle.std.proofs.Common.{Some, None, Option, refl, suc-mul, arith}
+use Rattle.std.proofs.Common.{◌≡◌, ℕ, zero, suc, ◌+◌, ◌*◌, ◌≤◌, [], ◌∷◌, ◌++◌, length}
+use Rattle.std.proofs.Common.{refl, suc-mul, arith}
 use Rattle.std.proofs.lemmas.Bool.Decides.{nat_tests}
-use Rattle.symbol.specs.declared.Item.{Item}
 use Rattle.symbol.specs.declared.Note.{Note}
-use Rattle.symbol.specs.declared.Note.TheVariants.{Sound, Lost}
 use Rattle.symbol.specs.declared.Symbol.{Symbol}
-use Rattle.symbol.specs.declared.Symbol.TheVariants as symbol
 use Rattle.eventlog.specs.Format.{encode, encode_all}
 use Rattle.eventlog.specs.declared.event.Event.{Event}
 use Rattle.eventlog.specs.declared.event.Event.TheVariants as event
-use Rattle.eventlog.specs.declared.event.FrameKind.TheVariants.{Freed}
-use Rattle.eventlog.specs.declared.event.ItemKind.TheVariants.{Put, Got}
-use Rattle.channel.specs.Calls.{handed}
+use Rattle.eventlog.specs.declared.event.ItemKind.TheVariants.{Put}
 use Rattle.bank.specs.Bank.{BankCalls}
-use Rattle.port.specs.Port.{Turn, receive_events, correction, after_send}
-use Rattle.model.specs.Chain.{Chain, facing, behind, port_of, with_port, with_bank, is_end, freed_events, each_port}
-use Rattle.model.specs.Chain.{takes_item, takes, sent, sends_symbol, sends, ticked, stepped, step_bytes}
+use Rattle.port.specs.Port.{Turn, receive_events}
+use Rattle.model.specs.Chain.{Chain, freed_events, each_port}
+use Rattle.model.specs.Chain.{takes, sends, ticked, stepped, step_bytes}
 use Rattle.model.specs.Run.{Log}
 use Rattle.model.specs.Figures.{total, tick_in, ticks}
 use Rattle.model.specs.Sizes.{CallsFit}

@@ -6,13 +6,11 @@ use Rattle.std.proofs.lemmas.List.Recursion.{is_sum_by}
 use Rattle.std.specs.List.{flat_map}
 use Rattle.symbol.specs.declared.Frame.{Frame}
 use Rattle.symbol.specs.declared.Symbol.{Symbol}
-use Rattle.symbol.specs.declared.Symbol.TheVariants as symbol
 use Rattle.eventlog.specs.declared.event.Event.{Event}
-use Rattle.eventlog.specs.declared.event.Event.TheVariants as event
 use Rattle.eventlog.specs.declared.event.FrameKind.TheVariants.{Freed, Injected, Collected}
 use Rattle.eventlog.specs.declared.event.ItemKind.TheVariants.{Put, Got, Lost as Missed}
 use Rattle.model.specs.Run.{Log}
-use Rattle.model.specs.Figures.{Stream, Frames, RRdys, Role, counted, mark, other, role, one_counted, how_many}
+use Rattle.model.specs.Figures.{Stream, Frames, RRdys, Role, one_counted, how_many}
 use Rattle.model.specs.Figures.{frames_among, records, symbol_in, frame_in, good_of_role, good_in, total, puts}
 use Rattle.model.specs.Figures.{put_count, got_count, reported_lost, made_good, freed, lost_frames, injected}
 use Rattle.model.specs.Figures.{collected}
@@ -70,9 +68,6 @@ pub record Adds (t t' : Tally) (put got lost good : ℕ) : Type 0 where
   pub gots : t'.got ≡ t.got + got
   pub losts : t'.losses.lost ≡ t.losses.lost + lost
   pub goods : t'.losses.good ≡ t.losses.good + good
-
-adds_nothing : (t : Tally) → Adds t t 0 0 0 0
-adds_nothing t = omega arith
 
 put_adds : (r : Role) (t : Tally) → Adds t (one_put r t) (one_counted r + 0) 0 0 0
 put_adds r t = grind arith

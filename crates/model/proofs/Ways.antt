@@ -1,17 +1,13 @@
 -- The frames of a way: none is gained or gone, and none passes another.
-use Rattle.std.proofs.Common.{◌≡◌, ℕ, zero, suc, ◌+◌, ◌-◌, ◌*◌, ◌<◌, ◌≤◌, Bool, cond, eqb, ◌≢◌, ◌⊎◌, List, [], ◌∷◌}
-use Rattle.std.proofs.Common.{◌++◌, sym, refl, ap, ◌∙◌, subst, inl, inr, arith}
+use Rattle.std.proofs.Common.{◌≡◌, ℕ, zero, suc, ◌+◌, ◌-◌, ◌*◌, ◌<◌, ◌≤◌, cond, eqb, ◌≢◌, ◌⊎◌, List, [], ◌∷◌}
+use Rattle.std.proofs.Common.{◌++◌, sym, refl, ap, ◌∙◌, subst, arith}
 use Rattle.std.proofs.lemmas.Bool.Decides.{nat_tests}
-use Rattle.std.proofs.lemmas.Bool.{eq-eqb, ne_eqb, cases_eq}
 use Rattle.symbol.specs.declared.Frame.{Frame}
 use Rattle.symbol.specs.declared.Symbol.{Symbol}
 use Rattle.symbol.specs.declared.Symbol.TheVariants as symbol
 use Rattle.eventlog.specs.declared.event.Event.{Event}
-use Rattle.eventlog.specs.declared.event.Event.TheVariants as event
-use Rattle.eventlog.specs.declared.event.ItemKind.TheVariants.{Put, Got, Lost as Missed}
 use Rattle.bank.specs.Bank.{BankCalls}
 use Rattle.symbol.specs.declared.end.End.{End}
-use Rattle.symbol.specs.declared.end.End.TheVariants.{West, East}
 use Rattle.model.specs.Chain.{Chain, behind, port_of, end_port, on, opposite}
 use Rattle.model.specs.Run.{Log}
 use Rattle.model.specs.Figures.{lost_frames, injected, collected, records, frames_among}
@@ -87,7 +83,13 @@ abbrev TakenBy : Account → Type 0
 TakenBy a = Taken a.taken a.got a.lost
 
 taken_kept : (a : Account) (e : Event) → TakenBy a → TakenBy (noted a e)
-taken_kept a e h = grind (arith, frame_got a.taken a.got a.lost h, frame_lost a.taken a.got a.lost h, no_frame a.taken a.got a.lost h)
+taken_kept a e h =
+    grind (
+      arith,
+      frame_got a.taken a.got a.lost h,
+      frame_lost a.taken a.got a.lost h,
+      no_frame a.taken a.got a.lost h,
+    )
 
 taken_all : (a : Account) (l : Log) → TakenBy a → TakenBy (noted_all a l)
 taken_all a [] h = h
