@@ -46,9 +46,6 @@ fresh_within m n a b k x y z = omega (arith, x, y, z)
 pub new_port_within : (m n : ℕ) → Within m n new_port
 new_port_within m n = fresh_within m n 1 1 0 (omega arith) (omega arith) (omega arith)
 
-tail_most : (ks : List Frame) → (length ks ≤ length (tail ks) + 1) × (length (tail ks) ≤ length ks)
-tail_most ks = grind arith
-
 module _ (m n : ℕ) (s : Port) (h : Within m n s) where
   taken_later : Within (m + 1) n s
   taken_later = later s (omega arith) (omega arith) h
@@ -60,7 +57,7 @@ module _ (m n : ℕ) (s : Port) (h : Within m n s) where
   sent_within o = grind (arith, h)
 
   unsent_within : Within m (n + 1) (unsent s)
-  unsent_within = omega (arith, h, tail_most s.outbox.frames)
+  unsent_within = grind (arith, h)
 
   emptied_within : (ws : List Frame) → s.buffers.waiting ≡ ws → Within m n (with_buffers s (emptied s.buffers ws))
   emptied_within ws e = grind (arith, h)

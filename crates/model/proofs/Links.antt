@@ -13,20 +13,11 @@ pub record Still {B : Type 0} (c d : Chain B) : Type 0 where
   pub tick : d.tick ≡ c.tick
 
 module _ {B : Type 0} (M : BankCalls B) where
-  by_item : (c : Chain B) (p : ℕ) (o : Option Item) → Still c (takes_item M c p o).state
-  by_item c p o = grind arith
-
   pub takes_still : (c : Chain B) (p : ℕ) → Still c (takes M c p).state
-  takes_still c p = grind (arith, by_item)
-
-  drawn_still : (c : Chain B) (p : ℕ) (s : Symbol) → Still c (drawn M c p s)
-  drawn_still c p s = grind (arith, nat_tests)
-
-  by_symbol : (c : Chain B) (p : ℕ) (o : Option Symbol) → Still c (sends_symbol M c p o).state
-  by_symbol c p o = grind (arith, drawn_still)
+  takes_still c p = grind arith
 
   pub sends_still : (c : Chain B) (p : ℕ) → Still c (sends M c p).state
-  sends_still c p = grind (arith, by_symbol)
+  sends_still c p = grind (arith, nat_tests)
 
 pub each_still : {B : Type 0} (f : Chain B → ℕ → Turn (Chain B)) → ((c : Chain B) (p : ℕ) → Still c (f c p).state)
     → (c : Chain B) (k : ℕ) → Still c (each_port f k c).state

@@ -115,11 +115,8 @@ module _ (s : Port) (h : FinePort s) where
   sent_fine : (o : Option Symbol) → FinePort (after_send s o)
   sent_fine o = grind (arith, h)
 
-  tail_fine : (fs : List Frame) → FineFrames fs → FineFrames (tail fs)
-  tail_fine fs z = grind arith
-
   unsent_fine : FinePort (unsent s)
-  unsent_fine = grind (arith, h, tail_fine s.outbox.frames)
+  unsent_fine = grind (arith, h)
 
   emptied_fine : (ws : List Frame) → FineFrames ws → FinePort (with_buffers s (emptied s.buffers ws))
   emptied_fine ws z = grind (arith, h)
@@ -158,11 +155,8 @@ FineChoice (Some y) = FineSymbol y
 pub oldest_fine : (fs : List Frame) → FineFrames fs → FineOldest (head? fs)
 oldest_fine fs z = grind arith
 
-frame_fine : (o : Option Frame) → FineOldest o → FineChoice (frame_of o)
-frame_fine o z = grind arith
-
 choice_fine : (s : Port) (o : Option Frame) → FineOldest o → FineChoice (choice s o)
-choice_fine s o z = grind (arith, nat_tests, frame_fine o z)
+choice_fine s o z = grind (arith, nat_tests)
 
 -- a number that is among fine ones is fine
 pub number_found : (k : ℕ) (xs : List ℕ) → among k xs ≡ true → AllByRecursion FineNumber xs → FineNumber k

@@ -50,12 +50,9 @@ account_own p l es h = cc (account-append p l es, of_port_own p es h)
 pub account_off : (p : ℕ) (l es : Log) → At p false es → account p (l ++ es) ≡ account p l
 account_off p l es h = account-append p l es ∙ ap (noted_all (account p l)) (of_port_off p es h)
 
-good_at : (p : ℕ) (e : Event) (t u : Bool) → is_at p e ≡ t → At p t (cond u [] (e ∷ []))
-good_at p e t u h = grind arith
-
 -- what a port writes of an item it takes is its own
 pub receive_at : (p x : ℕ) (t : Bool) (s : Port) (v : Note) (y : Symbol) → eqb p x ≡ t → At p t (taken_events x s v y)
-receive_at p x t s v y h = grind (arith, nat_tests, good_at)
+receive_at p x t s v y h = grind (arith, nat_tests)
 
 pub account_skip : (p : ℕ) (l es : Log) (e : Event) → is_at p e ≡ false
     → account p (l ++ (e ∷ es)) ≡ account p (l ++ es)
@@ -141,10 +138,6 @@ pub rooms_kept : (all all' : ℕ → ℕ) (l es : Log) → ((p : ℕ) → all' p
 rooms_kept all all' l es same h k =
     subst (λ (f : ℕ → ℕ). AllMeetRoom f [] (l ++ es)) (sym (fun_ext same)) (rooms_more all [] l es h k)
 
-good_rooms : (all : ℕ → ℕ) (before : Log) (x k : ℕ) (m : MarkIs) (t : Bool)
-    → AllMeetRoom all before (cond t [] (event.MadeGood x m k ∷ []))
-good_rooms all before x k s t = grind arith
-
 pub receive_rooms : (all : ℕ → ℕ) (l : Log) (x : ℕ) (s : Port) (v : Note) (y : Symbol) → MeetsRoom all l x y
     → AllMeetRoom all l (taken_events x s v y)
-receive_rooms all l x s v y m = grind (arith, good_rooms)
+receive_rooms all l x s v y m = grind (arith, nat_tests)

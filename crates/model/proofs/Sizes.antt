@@ -30,18 +30,12 @@ pub record Small (most : ℕ) (es : Log) : Type 0 where
   pub bytes : total size es ≤ most
   pub no_tick : ticks es ≡ 0
 
-taken_small : (p x : ℕ) (v : Note) (y : Symbol) → Small 10 (receive_events p v y x)
-taken_small p x v y = grind (arith, nat_tests)
-
-put_small : (links p : ℕ) (y : Symbol) → Small 15 (event.Item Put p y ∷ freed_events links p y)
-put_small links p y = grind (arith, nat_tests)
-
 module _ {B : Type 0} (M : BankCalls B) where
   pub takes_small : (c : Chain B) (p : ℕ) → Small 10 (takes M c p).events
-  takes_small c p = grind (arith, nat_tests, taken_small p)
+  takes_small c p = grind (arith, nat_tests)
 
   pub sends_small : (c : Chain B) (p : ℕ) → Small 15 (sends M c p).events
-  sends_small c p = grind (arith, nat_tests, put_small c.links p)
+  sends_small c p = grind (arith, nat_tests)
 
   each_small : (most : ℕ) (f : Chain B → ℕ → Turn (Chain B)) → ((c : Chain B) (p : ℕ) → Small most (f c p).events)
       → (c : Chain B) (k : ℕ) → Small (k * most) (each_port f k c).events

@@ -69,22 +69,10 @@ pub record Adds (t t' : Tally) (put got lost good : ℕ) : Type 0 where
   pub losts : t'.losses.lost ≡ t.losses.lost + lost
   pub goods : t'.losses.good ≡ t.losses.good + good
 
-put_adds : (r : Role) (t : Tally) → Adds t (one_put r t) (one_counted r + 0) 0 0 0
-put_adds r t = grind arith
-
-got_adds : (r : Role) (t : Tally) → Adds t (one_got r t) 0 (one_counted r + 0) 0 0
-got_adds r t = grind arith
-
-lost_adds : (r : Role) (t : Tally) → Adds t (one_missed r t) 0 0 (one_counted r + 0) 0
-lost_adds r t = grind arith
-
-good_adds : (r : Role) (n : ℕ) (t : Tally) → Adds t (some_good r n t) 0 0 0 (good_of_role r n)
-good_adds r n t = grind arith
-
 tally_adds : (k : Stream) (t : Tally) (e : Event)
     → Adds t (tally_after k t e) (how_many k (symbol_in Put e)) (how_many k (symbol_in Got e))
     (how_many k (symbol_in Missed e)) (good_in k e)
-tally_adds k t e = grind (arith, put_adds, got_adds, lost_adds, good_adds)
+tally_adds k t e = grind arith
 
 freed_adds : (n : ℕ) (e : Event) → by_frame one_freed as_it_was as_it_was n e ≡ n + length (frame_in Freed e)
 freed_adds n e = grind arith
@@ -92,12 +80,9 @@ freed_adds n e = grind arith
 puts_last : (ss : List Symbol) (e : Event) → by_item last as_it_was as_it_was ss e ≡ ss ++ symbol_in Put e
 puts_last ss e = grind (arith, append-nil {A = Symbol})
 
-frame_is_last : (fs : List Frame) (s : Symbol) → frame_last fs s ≡ fs ++ frames_among (s ∷ [])
-frame_is_last fs s = grind (arith, append-nil {A = Frame})
-
 lost_last : (fs : List Frame) (e : Event)
     → by_item as_it_was as_it_was frame_last fs e ≡ fs ++ frames_among (symbol_in Missed e)
-lost_last fs e = grind (arith, append-nil {A = Frame}, frame_is_last)
+lost_last fs e = grind (arith, append-nil {A = Frame})
 
 injected_last : (fs : List Frame) (e : Event) → by_frame as_it_was last as_it_was fs e ≡ fs ++ frame_in Injected e
 injected_last fs e = grind (arith, append-nil {A = Frame})
