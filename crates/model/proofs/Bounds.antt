@@ -59,22 +59,14 @@ module _ (m n : ℕ) (s : Port) (h : Within m n s) where
   unsent_within : Within m (n + 1) (unsent s)
   unsent_within = grind (arith, h)
 
-  emptied_within : (ws : List Frame) → s.buffers.waiting ≡ ws → Within m n (with_buffers s (emptied s.buffers ws))
-  emptied_within ws e = grind (arith, h)
-
   sent_on_within : Within m n (sent_on s)
-  sent_on_within = emptied_within s.buffers.waiting refl
-
-  lent_within : (ws : List Frame) → s.buffers.waiting ≡ ws → Within m n (with_buffers s (lent_out s.buffers ws))
-  lent_within ws e = grind (arith, h)
+  sent_on_within = grind (arith, h)
 
   pub handed_within : Within m n (handed_out s)
-  handed_within = lent_within s.buffers.waiting refl
+  handed_within = grind (arith, h)
 
   pub released_within : (k : ℕ) → Within m n (released s k)
-  released_within k =
-      cond_both (among k s.buffers.out) _ _ (λ (b : Buffers). Within m n (with_buffers s b)) (λ e. omega (arith, h))
-      (λ e. h)
+  released_within k = grind (arith, nat_tests, h)
 
   pub injected_within : length s.outbox.frames < 32 → Within m n (injected_at s)
   injected_within z = omega (arith, h, z, length-append s.outbox.frames (next_frame s ∷ []))

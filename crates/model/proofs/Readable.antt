@@ -118,17 +118,11 @@ module _ (s : Port) (h : FinePort s) where
   unsent_fine : FinePort (unsent s)
   unsent_fine = grind (arith, h)
 
-  emptied_fine : (ws : List Frame) → FineFrames ws → FinePort (with_buffers s (emptied s.buffers ws))
-  emptied_fine ws z = grind (arith, h)
-
   sent_on_fine : FinePort (sent_on s)
-  sent_on_fine = emptied_fine s.buffers.waiting h.wait
-
-  lent_fine : (ws : List Frame) → FineFrames ws → FinePort (with_buffers s (lent_out s.buffers ws))
-  lent_fine ws z = grind (arith, h, All-append FineNumber s.buffers.out)
+  sent_on_fine = grind (arith, h)
 
   pub handed_out_fine : FinePort (handed_out s)
-  handed_out_fine = lent_fine s.buffers.waiting h.wait
+  handed_out_fine = grind (arith, h, All-append FineNumber s.buffers.out)
 
   without_fine : (k : ℕ) (ks : List ℕ) → AllByRecursion FineNumber ks → AllByRecursion FineNumber (without k ks)
   without_fine k [] z = tt

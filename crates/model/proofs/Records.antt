@@ -72,28 +72,14 @@ pub record SameFrames (a a' : Account) : Type 0 where
   pub takes : a'.takes ≡ a.takes
 
 module _ (p x z : ℕ) (f : Frame) (l : Log) where
-  put_freed : (a : Account) (t u : Bool)
-      → SameFrames a
-      (noted_all a
-      (cond t (event.Item Put x (symbol.Frame f) ∷ []) [] ++ (cond u (event.Frame Freed z f ∷ []) [] ++ [])))
-  put_freed a t u = grind arith
-
   abbrev both : Log
   both = event.Item Put x (symbol.Frame f) ∷ event.Frame Freed z f ∷ []
 
   pub put_freed_frames : SameFrames (account p l) (account p (l ++ both))
-  put_freed_frames =
-      subst (SameFrames (account p l)) (sym (account-append p l both)) (put_freed (account p l) (eqb p x) (eqb p z))
-
-  freed_puts : (a : Account) (u : Bool) → (noted_all a (cond u (event.Frame Freed z f ∷ []) [] ++ [])).puts ≡ a.puts
-  freed_puts a u = grind arith
+  put_freed_frames = grind (arith, account-append p l both)
 
   pub put_freed_puts : eqb p x ≡ false → (account p (l ++ both)).puts ≡ (account p l).puts
-  put_freed_puts e =
-      ap (λ (a : Account). a.puts)
-      (account_skip p l (event.Frame Freed z f ∷ []) (event.Item Put x (symbol.Frame f)) e
-      ∙ account-append p l (event.Frame Freed z f ∷ []))
-      ∙ freed_puts (account p l) (eqb p z)
+  put_freed_puts e = grind (arith, nat_tests, account-append p l both)
 
 -- a frame that arrives finds a free buffer, and an R_RDY a credit in use, by the records before it; `all` has the
 -- buffers of each port

@@ -185,8 +185,7 @@ module _ {B : Type 0} (M : BankCalls B) (law : (b : B) → LawfulBank M b) where
 
   -- a new cabling: a link for each two channels of an idle bank, or none
   no_items : (xs : List Item) → empty xs ≡ true → symbols xs ≡ []
-  no_items [] e = refl
-  no_items (i ∷ is) e = absurd (false≢true e)
+  no_items xs e = grind arith
 
   all_idle_at : (b : B) (k d : ℕ) → all_idle M b k ≡ true → d < k → symbols (M.known b d).items ≡ []
   all_idle_at b zero d e lt = absurd (omega arith)
@@ -275,8 +274,7 @@ module _ {B : Type 0} (M : BankCalls B) (law : (b : B) → LawfulBank M b) where
       (first_is (port_of c (end_port c e)).buffers.waiting k w))
 
   released_all : (s : Port) (k : ℕ) → (released s k).buffers.all ≡ s.buffers.all
-  released_all s k =
-      cond_both (among k s.buffers.out) _ _ (λ (b : Buffers). b.all ≡ s.buffers.all) (λ e. refl) (λ e. refl)
+  released_all s k = grind (arith, nat_tests)
 
   -- a release that is not refused is of a number handed out
   pub released_out : (c : Chain B) (e : End) (k room : ℕ) → release_refusal M c e k room ≡ None
