@@ -5,16 +5,14 @@ use Rattle.std.proofs.Common.{◌∷◌, length, get_or, set, Some, None, Option
 use Rattle.std.proofs.Common.{length-append, get_or-set_other}
 use Rattle.std.proofs.lemmas.Bool.Decides.{nat_tests}
 use Rattle.std.proofs.lemmas.Bool.{cases_eq, cases_lt, cond_both}
-use Rattle.ring.specs.Queue.{tail}
-use Rattle.symbol.specs.declared.Frame.{Frame}
 use Rattle.symbol.specs.declared.Item.{Item}
 use Rattle.symbol.specs.declared.Note.{Note}
 use Rattle.symbol.specs.declared.Symbol.{Symbol}
 use Rattle.symbol.specs.declared.Symbol.TheVariants as symbol
 use Rattle.channel.specs.Calls.{handed}
 use Rattle.bank.specs.Bank.{BankCalls}
-use Rattle.port.specs.Port.{Buffers, Port, Turn, new_port, logged_in, with_buffers, received}
-use Rattle.port.specs.Port.{after_send, unsent, emptied, sent_on, lent_out, handed_out, among, released, injected_at}
+use Rattle.port.specs.Port.{Port, Turn, new_port, logged_in, received}
+use Rattle.port.specs.Port.{after_send, unsent, sent_on, handed_out, released, injected_at}
 use Rattle.port.specs.Port.{next_frame}
 use Rattle.model.specs.Chain.{sent, Chain, behind, facing, port_of, with_port, with_bank, is_end, takes_item, takes}
 use Rattle.model.specs.Chain.{drawn, sends_symbol, sends, each_port, ticked, stepped, last_tick, outbox_places, sound}

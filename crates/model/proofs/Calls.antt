@@ -28,7 +28,7 @@ use Rattle.model.proofs.Kept.{sends_kept}
 
 numbers-snoc : (fs : List Frame) (f : Frame) → numbers (fs ++ (f ∷ [])) ≡ numbers fs ++ (f.number ∷ [])
 numbers-snoc [] f = refl
-numbers-snoc (g ∷ gs) f = ap {B = List ℕ} (λ z. g.number ∷ z) (numbers-snoc gs f)
+numbers-snoc (g ∷ gs) f = grind (arith, numbers-snoc gs f)
 
 module _ {B : Type 0} (M : BankCalls B) (law : (b : B) → LawfulBank M b) where
   -- a tick: symbols stay where they are

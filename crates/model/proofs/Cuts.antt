@@ -1,7 +1,7 @@
 -- The stretches of an account are those of what its port has taken.
 use Rattle.std.proofs.Common.{◌≡◌, ℕ, List, [], ◌∷◌, ◌++◌, refl, ap, ◌∙◌, subst, arith}
 use Rattle.symbol.specs.declared.Symbol.{Symbol}
-use Rattle.model.specs.Figures.{Stream, Frames, RRdys, Role, role}
+use Rattle.model.specs.Figures.{Stream, Frames, RRdys, role}
 use Rattle.model.specs.Stretches.{Fate, Arrived, UnderWay, more_good, Passage, last_good, Stretches, and_one, cut}
 use Rattle.model.specs.Stretches.{nothing_put, paired, taken_symbols, lost_among}
 use Rattle.model.proofs.Accounts.{Account}

@@ -115,16 +115,7 @@ pub record Act (inner : Type 0) (s s' : Port) (a a' : Account) : Type 0 where
   pub cuts : Cut a → Cut a'
 
 pub no_change : (inner : Type 0) (s : Port) (a : Account) → Act inner s s a a
-no_change inner s a = record {
-  all = refl;
-  stocked = λ z. z;
-  puts = λ i. refl;
-  got = λ i g z. z;
-  fed = λ z. z;
-  handed = λ z. z;
-  numbered = λ z. z;
-  cuts = λ z. z;
-}
+no_change inner s a = grind arith
 
 -- an act that neither puts a frame, nor hands one out, nor is given one
 pub record Quiet (s s' : Port) (a a' : Account) : Type 0 where
@@ -138,16 +129,7 @@ pub record Quiet (s s' : Port) (a a' : Account) : Type 0 where
   pub cuts : Cut a → Cut a'
 
 pub quiet_act : (inner : Type 0) (s s' : Port) (a a' : Account) → Quiet s s' a a' → Act inner s s' a a'
-quiet_act inner s s' a a' q = record {
-  all = q.all;
-  stocked = q.stocked;
-  puts = λ i. q.puts;
-  got = λ i. q.got;
-  fed = λ z. q.injected ∙ z ∙ (λ i. sym q.puts i ++ (sym q.outbox i).frames);
-  handed = λ z. q.got a'.collected (z ∙ ap {B = List Frame} (λ r. r ++ s.buffers.waiting) (sym q.collected));
-  numbered = λ z. ap numbers q.injected ∙ z ∙ ap (λ (o : Outbox). up_to o.injected) (sym q.outbox);
-  cuts = q.cuts;
-}
+quiet_act inner s s' a a' q = grind (arith, q)
 
 on_same : {S : Sender} {R : Receiver} {f f' g g' : List Symbol} → f ≡ f' → g ≡ g' → LoopOf S R f' (roles RRdys g')
     → LoopOf S R f (roles RRdys g)
@@ -425,18 +407,8 @@ module _ {B : Type 0} (M : BankCalls B) (law : (b : B) → LawfulBank M b) where
   end_act : (x : ℕ) (inner : Type 0) (s : Port) (a : Account) (k : Frame) (ks : List Frame) → (inner → ⊥)
       → s.outbox.frames ≡ k ∷ ks
       → Act inner s (has_sent (unsent s) (symbol.Frame k)) a (noted a (event.Item Put x (symbol.Frame k)))
-  end_act x inner s a k ks outer box = record {
-    all = refl;
-    stocked = λ z. z;
-    puts = λ i. absurd (outer i);
-    got = λ i g z. z;
-    fed = λ z. z ∙ ap {B = List Frame} (λ r. frames_among a.puts ++ r) box
-        ∙ sym (append_assoc (frames_among a.puts) (k ∷ []) ks)
-        ∙ sym (λ i. frames-append a.puts (symbol.Frame k ∷ []) i ++ tail (box i));
-    handed = λ z. z;
-    numbered = λ z. z;
-    cuts = λ z. z;
-  }
+  end_act x inner s a k ks outer box =
+      grind (arith, outer, box, frames-append a.puts (symbol.Frame k ∷ []), append_assoc (frames_among a.puts) (k ∷ []) ks)
 
   -- a port that is no end puts the oldest frame that waits at z, for which it sends
   module _ (c : Chain B) (l : Log) (x w z : ℕ) (k : Frame) (ks : List Frame) (h : Invariant M c l)

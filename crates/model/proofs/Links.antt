@@ -1,12 +1,10 @@
 -- No act of a port changes the links or the tick.
-use Rattle.std.proofs.Common.{◌≡◌, ℕ, zero, suc, Option, refl, ◌∙◌}
+use Rattle.std.proofs.Common.{◌≡◌, ℕ, zero, suc, refl, ◌∙◌}
 use Rattle.std.proofs.Common.{arith}
 use Rattle.std.proofs.lemmas.Bool.Decides.{nat_tests}
-use Rattle.symbol.specs.declared.Item.{Item}
-use Rattle.symbol.specs.declared.Symbol.{Symbol}
 use Rattle.bank.specs.Bank.{BankCalls}
 use Rattle.port.specs.Port.{Turn}
-use Rattle.model.specs.Chain.{Chain, each_port, takes, takes_item, sends, sends_symbol, drawn}
+use Rattle.model.specs.Chain.{Chain, each_port, takes, sends}
 
 pub record Still {B : Type 0} (c d : Chain B) : Type 0 where
   pub links : d.links ≡ c.links

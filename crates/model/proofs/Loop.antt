@@ -1,10 +1,10 @@
 -- One loop of credit: the port that sends frames, the port that takes them and sends R_RDYs, and what is under way
 -- between them.
 use Rattle.std.proofs.Common.{◌≡◌, ℕ, ◌+◌, ◌%◌, ◌^◌, ◌<◌, ◌≤◌, min, Bool, true, false, cond, ◌&&◌, ◌||◌, eqb, ltb}
-use Rattle.std.proofs.Common.{List, [], ◌∷◌, ◌++◌, sym, refl, ap, ◌∙◌, subst, append_assoc, add-zero, zero-add, arith}
+use Rattle.std.proofs.Common.{List, [], ◌∷◌, ◌++◌, sym, refl, ap, ◌∙◌, subst, append_assoc, arith}
 use native.Mathlib.Nat.{mod-le}
 use Rattle.std.proofs.lemmas.Bool.Decides.{nat_tests}
-use Rattle.std.proofs.lemmas.Bool.{cond-false, eqb-true, ne_eqb}
+use Rattle.std.proofs.lemmas.Bool.{cond-false, ne_eqb}
 use Rattle.symbol.specs.declared.Frame.{Frame}
 use Rattle.symbol.specs.declared.Mark.TheVariants.{BbScS, BbScR}
 use Rattle.symbol.specs.declared.Note.{Note}
@@ -19,7 +19,7 @@ use Rattle.port.specs.Port.{frame_held, is_full, credit_back, frames_found, rrdy
 use Rattle.port.specs.Port.{rrdys_corrected, frames_made_good, rrdys_made_good, with_buffers, emptied}
 use Rattle.model.specs.Run.{Log}
 use Rattle.model.specs.Figures.{Stream, Frames, RRdys, Role, counted, role, roles, counted_in, one_counted, how_many}
-use Rattle.model.specs.Stretches.{Passage, Arrived, last_good}
+use Rattle.model.specs.Stretches.{Passage, Arrived}
 use Rattle.model.proofs.Accounts.{Losses, Tally, Account, noted, noted_all, with_tallies, buffers_in_use}
 use Rattle.model.proofs.Accounts.{credit_used, with_got, with_mark}
 use Rattle.model.proofs.Cuts.{last_good-snoc}
@@ -137,10 +137,10 @@ how_many-snoc : (k : Stream) (xs : List Symbol) (y : Symbol)
 how_many-snoc k xs y = ap counted_in (roles-snoc k xs y) ∙ counted-snoc (roles k xs) (role k y)
 
 taken_next : (xs : List Symbol) (y : Symbol) (ys zs : List Symbol) → zs ≡ xs ++ (y ∷ ys) → zs ≡ xs ++ (y ∷ []) ++ ys
-taken_next xs y ys zs e = e ∙ sym (append_assoc xs (y ∷ []) ys)
+taken_next xs y ys zs e = grind (arith, append_assoc xs (y ∷ []) ys)
 
 puts_next : (xs ys zs : List Symbol) (y : Symbol) → zs ≡ xs ++ ys → zs ++ (y ∷ []) ≡ xs ++ (ys ++ (y ∷ []))
-puts_next xs ys zs y e = ap {B = List Symbol} (λ r. r ++ (y ∷ [])) e ∙ append_assoc xs ys (y ∷ [])
+puts_next xs ys zs y e = grind (arith, append_assoc xs ys (y ∷ []))
 
 -- a stream's tally after a sound mark: g made good in all, k of them by this mark
 abbrev marked : Tally → ℕ → ℕ → Tally

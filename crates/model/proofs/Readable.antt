@@ -6,7 +6,7 @@ use Rattle.std.proofs.ByRecursion.{All-append}
 use Rattle.std.proofs.lemmas.Bool.Decides.{nat_tests}
 use Rattle.std.proofs.lemmas.Bool.{cond_both, lt-ltb, cases_eq, false≢true}
 use Rattle.std.specs.List.{AllByRecursion}
-use Rattle.ring.specs.Queue.{head?, tail}
+use Rattle.ring.specs.Queue.{head?}
 use Rattle.symbol.specs.declared.Frame.{Frame}
 use Rattle.symbol.specs.declared.Item.{Item}
 use Rattle.symbol.specs.declared.Mark.{Mark}
@@ -23,8 +23,8 @@ use Rattle.eventlog.specs.declared.event.ItemKind.TheVariants.{Put}
 use Rattle.reader.specs.Reading.{WellFormed}
 use Rattle.bank.specs.Bank.{BankCalls, LawfulBank}
 use Rattle.port.specs.Port.{Port, Turn, and_then, logged_in, lost_of, frames_found, rrdys_found, correction, is_full}
-use Rattle.port.specs.Port.{frame_held, credit_back, received, receive_events, frame_of, choice, after_send, emptied}
-use Rattle.port.specs.Port.{sent_on, unsent, with_buffers, lent_out, handed_out, among, without, released}
+use Rattle.port.specs.Port.{frame_held, credit_back, received, receive_events, choice, after_send}
+use Rattle.port.specs.Port.{sent_on, unsent, handed_out, among, without, released}
 use Rattle.port.specs.Port.{next_frame, injected_at}
 use Rattle.model.specs.Chain.{Chain, facing, behind, is_end, freed_events, sound, symbols, port_of, with_port}
 use Rattle.model.specs.Chain.{with_bank, on, each_port, takes_item, takes, source, drawn, sends_symbol, sends, ticked}

@@ -5,7 +5,6 @@ use mathlib.Core.Path.{fun_ext}
 use Rattle.std.proofs.lemmas.Bool.Decides.{nat_tests}
 use Rattle.std.specs.List.{AllByRecursion}
 use Rattle.symbol.specs.declared.Frame.{Frame}
-use Rattle.symbol.specs.declared.Mark.{Mark as MarkIs}
 use Rattle.symbol.specs.declared.Note.{Note}
 use Rattle.symbol.specs.declared.Symbol.{Symbol}
 use Rattle.symbol.specs.declared.Symbol.TheVariants as symbol

@@ -2,15 +2,12 @@
 use Rattle.std.proofs.Common.{◌≡◌, ℕ, zero, suc, ◌+◌, ◌*◌, ◌≤◌, [], ◌∷◌, ◌++◌, length}
 use Rattle.std.proofs.Common.{refl, suc-mul, arith}
 use Rattle.std.proofs.lemmas.Bool.Decides.{nat_tests}
-use Rattle.symbol.specs.declared.Note.{Note}
-use Rattle.symbol.specs.declared.Symbol.{Symbol}
 use Rattle.eventlog.specs.Format.{encode, encode_all}
 use Rattle.eventlog.specs.declared.event.Event.{Event}
 use Rattle.eventlog.specs.declared.event.Event.TheVariants as event
-use Rattle.eventlog.specs.declared.event.ItemKind.TheVariants.{Put}
 use Rattle.bank.specs.Bank.{BankCalls}
-use Rattle.port.specs.Port.{Turn, receive_events}
-use Rattle.model.specs.Chain.{Chain, freed_events, each_port}
+use Rattle.port.specs.Port.{Turn}
+use Rattle.model.specs.Chain.{Chain, each_port}
 use Rattle.model.specs.Chain.{takes, sends, ticked, stepped, step_bytes}
 use Rattle.model.specs.Run.{Log}
 use Rattle.model.specs.Figures.{total, tick_in, ticks}

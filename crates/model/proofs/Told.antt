@@ -10,12 +10,12 @@ use Rattle.eventlog.specs.declared.event.Event.{Event}
 use Rattle.eventlog.specs.declared.event.FrameKind.TheVariants.{Freed, Injected, Collected}
 use Rattle.eventlog.specs.declared.event.ItemKind.TheVariants.{Put, Got, Lost as Missed}
 use Rattle.model.specs.Run.{Log}
-use Rattle.model.specs.Figures.{Stream, Frames, RRdys, Role, one_counted, how_many}
-use Rattle.model.specs.Figures.{frames_among, records, symbol_in, frame_in, good_of_role, good_in, total, puts}
+use Rattle.model.specs.Figures.{Stream, Frames, RRdys, how_many}
+use Rattle.model.specs.Figures.{frames_among, records, symbol_in, frame_in, good_in, total, puts}
 use Rattle.model.specs.Figures.{put_count, got_count, reported_lost, made_good, freed, lost_frames, injected}
 use Rattle.model.specs.Figures.{collected}
 use Rattle.model.specs.Stretches.{Passage, last_good, took, took_all, taken, taken_symbols}
-use Rattle.model.proofs.Accounts.{Tally, Account, one_put, one_got, one_missed, some_good, tally_after, frame_last}
+use Rattle.model.proofs.Accounts.{Tally, Account, tally_after, frame_last}
 use Rattle.model.proofs.Accounts.{by_item, by_frame, as_it_was, last, one_freed, noted, noted_all, no_account}
 use Rattle.model.proofs.Accounts.{account}
 

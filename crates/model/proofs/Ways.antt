@@ -53,24 +53,16 @@ pub record Taken (taken : List Symbol) (got lost : List Frame) : Type 0 where
 
 module _ (taken : List Symbol) (got lost : List Frame) (h : Taken taken got lost) where
   no_frame : (y : Symbol) → frames_among (y ∷ []) ≡ [] → Taken (taken ++ (y ∷ [])) got lost
-  no_frame y e = record {
-    each = λ k. ap (times k) (frames_same taken y e) ∙ h.each k;
-    in_order = subst (InOrderOf got) (sym (frames_same taken y e)) h.in_order;
-  }
+  no_frame y e = grind (arith, h, frames_same taken y e)
 
   more_taken : (f : Frame) (k : ℕ)
       → times k (frames_among (taken ++ (symbol.Frame f ∷ []))) ≡ times k got + times k lost + times k (f ∷ [])
   more_taken f k =
-      ap (times k) (frames-append taken (symbol.Frame f ∷ []))
-      ∙ omega (arith, times-append k (frames_among taken) (f ∷ []), h.each k)
+      grind (arith, frames-append taken (symbol.Frame f ∷ []), times-append k (frames_among taken) (f ∷ []), h.each k)
 
   frame_got : (f : Frame) → Taken (taken ++ (symbol.Frame f ∷ [])) (got ++ (f ∷ [])) lost
-  frame_got f = record {
-    each = λ k. omega (arith, more_taken f k, times-append k got (f ∷ []));
-    in_order =
-        subst (InOrderOf (got ++ (f ∷ []))) (sym (frames-append taken (symbol.Frame f ∷ [])))
-        (in_order_both f h.in_order);
-  }
+  frame_got f =
+      grind (arith, h, more_taken f, times-append, frames-append taken (symbol.Frame f ∷ []), in_order_both f h.in_order)
 
   frame_lost : (f : Frame) → Taken (taken ++ (symbol.Frame f ∷ [])) got (lost ++ (f ∷ []))
   frame_lost f = record {
@@ -149,14 +141,12 @@ module _ {B : Type 0} (M : BankCalls B) (c : Chain B) where
         ≡ times k (account (taker c e i) l).got + times k (lost_frames (taker c e i) l) + times k
         (frames_among (on M c (hop c e i)))
     put_times i k lt =
-        omega (
+        grind (
           arith,
-          ap (times k) (put_is i lt),
-          times-append k (frames_among (account (taker c e i) l).taken)
-              (frames_among (on M c (hop c e i))),
+          put_is i lt,
+          times-append k (frames_among (account (taker c e i) l).taken) (frames_among (on M c (hop c e i))),
           (taken_of (taker c e i) l).each k,
-          ap (times k)
-              (told (taker c e i) l).lost_are,
+          told (taker c e i) l,
         )
 
     -- the first direction is fed by the outbox, each other by the port before it
