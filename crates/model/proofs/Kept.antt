@@ -408,7 +408,13 @@ module _ {B : Type 0} (M : BankCalls B) (law : (b : B) → LawfulBank M b) where
       → s.outbox.frames ≡ k ∷ ks
       → Act inner s (has_sent (unsent s) (symbol.Frame k)) a (noted a (event.Item Put x (symbol.Frame k)))
   end_act x inner s a k ks outer box =
-      grind (arith, outer, box, frames-append a.puts (symbol.Frame k ∷ []), append_assoc (frames_among a.puts) (k ∷ []) ks)
+      grind (
+        arith,
+        outer,
+        box,
+        frames-append a.puts (symbol.Frame k ∷ []),
+        append_assoc (frames_among a.puts) (k ∷ []) ks,
+      )
 
   -- a port that is no end puts the oldest frame that waits at z, for which it sends
   module _ (c : Chain B) (l : Log) (x w z : ℕ) (k : Frame) (ks : List Frame) (h : Invariant M c l)

@@ -62,7 +62,14 @@ module _ (taken : List Symbol) (got lost : List Frame) (h : Taken taken got lost
 
   frame_got : (f : Frame) → Taken (taken ++ (symbol.Frame f ∷ [])) (got ++ (f ∷ [])) lost
   frame_got f =
-      grind (arith, h, more_taken f, times-append, frames-append taken (symbol.Frame f ∷ []), in_order_both f h.in_order)
+      grind (
+        arith,
+        h,
+        more_taken f,
+        times-append,
+        frames-append taken (symbol.Frame f ∷ []),
+        in_order_both f h.in_order,
+      )
 
   frame_lost : (f : Frame) → Taken (taken ++ (symbol.Frame f ∷ [])) got (lost ++ (f ∷ []))
   frame_lost f = record {
