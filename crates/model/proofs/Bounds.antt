@@ -162,11 +162,8 @@ module _ {B : Type 0} (M : BankCalls B) where
     drawn_own (symbol.Mark y) h = later (port_of c p) (omega arith) (omega arith) h
 
     drawn_off : (y : Symbol) (q : ℕ) → q ≢ p → Within m n (port_of c q) → Within m n (port_of (drawn M c p y) q)
-    drawn_off (symbol.Frame k) q d h =
-        cond_both (is_end c.links p) _ _ (λ (x : Chain B). Within m n (port_of x q))
-        (λ e. other_port (Within m n) c p q (unsent (port_of c p)) d h) (λ e. freed_within q h)
-    drawn_off symbol.RRdy q d h = h
-    drawn_off (symbol.Mark y) q d h = h
+    drawn_off y q d h =
+        grind (arith, nat_tests, freed_within q h, other_port (Within m n) c p q (unsent (port_of c p)) d h)
 
   sends_own : (m n : ℕ) (c : Chain B) (p : ℕ) → Within m n (port_of c p)
       → Within m (n + 1) (port_of (sends M c p).state p)

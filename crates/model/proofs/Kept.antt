@@ -171,16 +171,7 @@ Stocks v = (length v.waiting + length v.out ≤ v.held) × (v.handed ≡ min (le
 
 -- an act that moves no frame
 unmoved : (s s' : Port) (a a' : Account) → shelf s' a' ≡ shelf s a → (Cut a → Cut a') → Quiet s s' a a'
-unmoved s s' a a' e cuts = record {
-  all = ap (λ (v : Shelf). v.all) e;
-  stocked = subst Stocks (sym e);
-  puts = ap (λ (v : Shelf). v.puts) e;
-  got = λ g z. ap (λ (v : Shelf). v.got) e ∙ z ∙ ap (λ (v : Shelf). g ++ v.waiting) (sym e);
-  injected = ap (λ (v : Shelf). v.injected) e;
-  collected = ap (λ (v : Shelf). v.collected) e;
-  outbox = ap (λ (v : Shelf). v.outbox) e;
-  cuts = cuts;
-}
+unmoved s s' a a' e cuts = grind (arith, e, cuts)
 
 module _ (x : ℕ) (s : Port) (a : Account) where
   quiet_credit : (t : Bool) → Quiet s (cond t s (credit_back s)) a (noted a (event.Item Got x symbol.RRdy))

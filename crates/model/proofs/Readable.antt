@@ -26,7 +26,7 @@ use Rattle.port.specs.Port.{Port, Turn, and_then, logged_in, lost_of, frames_fou
 use Rattle.port.specs.Port.{frame_held, credit_back, received, receive_events, choice, after_send}
 use Rattle.port.specs.Port.{sent_on, unsent, handed_out, among, without, released}
 use Rattle.port.specs.Port.{next_frame, injected_at}
-use Rattle.model.specs.Chain.{Chain, facing, behind, is_end, freed_events, sound, symbols, port_of, with_port}
+use Rattle.model.specs.Chain.{Chain, facing, behind, freed_events, sound, symbols, port_of, with_port}
 use Rattle.model.specs.Chain.{with_bank, on, each_port, takes_item, takes, source, drawn, sends_symbol, sends, ticked}
 use Rattle.model.specs.Chain.{stepped, last_tick}
 use Rattle.model.specs.Run.{Log}
@@ -238,14 +238,13 @@ module _ {B : Type 0} (M : BankCalls B) where
     source_fine c p h = grind (arith, nat_tests, oldest_fine, h.ports p, h.ports (behind p))
 
     drawn_fine : (c : Chain B) (p : ℕ) (y : Symbol) → Fine c → Fine (drawn M c p y)
-    drawn_fine c p (symbol.Frame f) h =
-        cond_both (is_end c.links p) (with_port c p (unsent (port_of c p)))
-        (with_port c (behind p) (sent_on (port_of c (behind p)))) Fine
-        (λ e. fine_port c p (unsent (port_of c p)) h (unsent_fine (port_of c p) (h.ports p)))
-        (λ e. fine_port c (behind p) (sent_on (port_of c (behind p))) h
-        (sent_on_fine (port_of c (behind p)) (h.ports (behind p))))
-    drawn_fine c p symbol.RRdy h = h
-    drawn_fine c p (symbol.Mark m) h = h
+    drawn_fine c p y h =
+        grind (
+          arith,
+          nat_tests,
+          fine_port c p (unsent (port_of c p)) h (unsent_fine (port_of c p) (h.ports p)),
+          fine_port c (behind p) (sent_on (port_of c (behind p))) h (sent_on_fine (port_of c (behind p)) (h.ports (behind p))),
+        )
 
     freed_well : (links p : ℕ) (y : Symbol) → links ≤ 8 → p < 2 * links → FineSymbol y
         → AllByRecursion WellFormed (freed_events links p y)

@@ -7,7 +7,7 @@ use Rattle.std.proofs.Common.{length-set, pow_pos}
 use native.Mathlib.Nat.{zero-mod}
 use lib.ListN.{length-replicate}
 use Rattle.std.proofs.lemmas.Bool.Decides.{nat_tests}
-use Rattle.std.proofs.lemmas.Bool.{cond_both, false≢true, cases_eq}
+use Rattle.std.proofs.lemmas.Bool.{cond_both, cases_eq}
 use Rattle.ring.specs.Queue.{head?, tail, empty}
 use Rattle.symbol.specs.declared.Frame.{Frame}
 use Rattle.symbol.specs.declared.Item.{Item}
@@ -61,14 +61,7 @@ unless P (Some e) c t h f = h
 
 -- a stream of which nothing was sent
 new_stream : (n : ℕ) → InStep n (record { sent = 0; due = false }) 0 [] no_tally.losses
-new_stream n = record {
-  sent_is = sym (zero-mod (2 ^ n));
-  due_is = λ e. absurd (false≢true e);
-  marks = tt;
-  below = pow_pos n;
-  good = le_refl 0;
-  ended = record { each = tt; all_lost = refl; all_good = refl };
-}
+new_stream n = grind (arith, zero-mod (2 ^ n), pow_pos n)
 
 new_loop : (a b n : ℕ) → Loop (logged_in a b n) (logged_in b a n) [] [] no_account no_account
 new_loop a b n = record { figures = omega arith; frames = new_stream n; rrdys = new_stream n; order = refl }
