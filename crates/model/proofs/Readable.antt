@@ -243,7 +243,8 @@ module _ {B : Type 0} (M : BankCalls B) where
           arith,
           nat_tests,
           fine_port c p (unsent (port_of c p)) h (unsent_fine (port_of c p) (h.ports p)),
-          fine_port c (behind p) (sent_on (port_of c (behind p))) h (sent_on_fine (port_of c (behind p)) (h.ports (behind p))),
+          fine_port c (behind p) (sent_on (port_of c (behind p))) h
+              (sent_on_fine (port_of c (behind p)) (h.ports (behind p))),
         )
 
     freed_well : (links p : ℕ) (y : Symbol) → links ≤ 8 → p < 2 * links → FineSymbol y
