@@ -190,10 +190,17 @@ module _ {B : Type 0} (M : BankCalls B) (law : (b : B) → LawfulBank M b) where
     pub few : k ≤ 8
     pub idle : (d : ℕ) → d < 2 * k → symbols (M.known b d).items ≡ []
 
+  cabled_idle : (b : B) → 0 < cabled_links M b
+      → (all_idle M b (count M b) ≡ true) × (2 * cabled_links M b ≤ count M b)
+  cabled_idle b some = grind (arith, nat_tests)
+
   pub cabling : (b : B) → Cabling b (cabled_links M b)
   cabling b = record {
     few = grind (arith, nat_tests);
-    idle = λ d z. grind (arith, nat_tests, all_idle_at b (count M b) d);
+    idle =
+        λ d z.
+        let h = cabled_idle b (omega arith) in
+        all_idle_at b (count M b) d h.0 (omega (arith, h.1));
   }
 
   cabled_fresh : (b : B) → Fresh (cabled M b)
