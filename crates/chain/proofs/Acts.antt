@@ -1,18 +1,15 @@
 -- Acts one after another.
-use Rattle.std.proofs.Common.{◌≡◌, ℕ, ◌+◌, ◌*◌, sym, refl, ap, ◌∙◌, subst, add-one}
+use Rattle.std.proofs.Common.{◌≡◌, ℕ, ◌+◌, ◌*◌, sym, ap, ◌∙◌, subst, add-one}
 use Rattle.eventlog.specs.Sheet.{Logs}
 use Rattle.eventlog.specs.declared.sheet.Sheet.{Sheet}
-use Rattle.eventlog.proofs.Sheets.{logs_nothing, logs_then}
-use Rattle.port.specs.Port.{Turn, and_then, no_act}
+use Rattle.eventlog.proofs.Sheets.{logs_then}
+use Rattle.port.specs.Port.{Turn, and_then}
 use Rattle.bank.specs.Bank.{BankCalls}
 use Rattle.model.specs.Chain.{Chain, each_port, sends, stepped, takes, ticked}
 use Rattle.model.proofs.Links.{takes_still, each_still}
 use Rattle.chain.specs.Acts.{Acted}
 
 module _ {C : Type 0} where
-  pub acted_none : (c : C) (s : Sheet) → Acted (no_act c) s c s
-  acted_none c s = record { state = refl; log = logs_nothing s }
-
   pub acted_then : (t : Turn C) (f : C → Turn C) (s u v : Sheet) (d e : C)
       → Acted t s d u → Acted (f d) u e v → Acted (and_then t f) s e v
   acted_then t f s u v d e first then =

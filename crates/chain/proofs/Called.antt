@@ -23,12 +23,10 @@ use Rattle.chain.specs.Calls.{Called, handed_over}
 -- what an answer says of the refusal behind it
 
 refused : (o : Option Refusal) (e : Refusal) → Err e ≡ answer o (tt {0}) → o ≡ Some e
-refused None e is = cc
-refused (Some x) e is = cc
+refused o e is = grind arith
 
 not_refused : (o : Option Refusal) → Ok (tt {0}) ≡ answer o (tt {0}) → o ≡ None
-not_refused None is = refl
-not_refused (Some x) is = cc
+not_refused o is = grind arith
 
 -- A call that its refusal decides, refused and not; `a` is its answer, by the refusal.
 module _ {C R : Type 0} (c : C) (t : Turn C) (a : Option Refusal → R) (s : Sheet) (o : Option Refusal) where

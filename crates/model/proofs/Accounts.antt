@@ -185,9 +185,6 @@ with_tallies a frames rrdys s ts = record {
   collected = a.collected;
 }
 
-abbrev pub with_taken : Account → Symbol → Account
-with_taken a s = with_tallies a a.frames a.rrdys s a.takes
-
 -- by a port's account: its buffers that hold a frame or owe an R_RDY, and its credit in use.
 abbrev pub buffers_in_use : Account → ℕ
 buffers_in_use a = (a.frames.got - a.freed) + (a.freed + a.frames.losses.good - a.rrdys.put)

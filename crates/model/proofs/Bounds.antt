@@ -1,22 +1,18 @@
 -- No figure of a run comes near the largest that its field holds: in a step each port takes one item and sends one
 -- symbol at most.
-use Rattle.std.proofs.Common.{◌≡◌, ℕ, zero, suc, ◌+◌, ◌*◌, ◌<◌, ◌≤◌, eqb, ◌≢◌, ◌⊎◌, ⊎_elim, List, []}
-use Rattle.std.proofs.Common.{◌∷◌, length, get_or, set, Some, None, Option, sym, refl, ap, ◌∙◌, subst, inl, inr, arith}
+use Rattle.std.proofs.Common.{◌≡◌, ℕ, zero, suc, ◌+◌, ◌*◌, ◌<◌, ◌≤◌, ◌≢◌, ⊎_elim, List, []}
+use Rattle.std.proofs.Common.{◌∷◌, length, get_or, set, Some, None, Option, sym, refl, ap, ◌∙◌, subst, arith}
 use Rattle.std.proofs.Common.{length-append, get_or-set_other}
 use Rattle.std.proofs.lemmas.Bool.Decides.{nat_tests}
 use Rattle.std.proofs.lemmas.Bool.{cases_eq, cases_lt, cond_both}
-use Rattle.ring.specs.Queue.{tail}
-use Rattle.symbol.specs.declared.Frame.{Frame}
 use Rattle.symbol.specs.declared.Item.{Item}
-use Rattle.symbol.specs.declared.Mark.TheVariants.{BbScS, BbScR}
 use Rattle.symbol.specs.declared.Note.{Note}
-use Rattle.symbol.specs.declared.Note.TheVariants.{Sound, Lost}
 use Rattle.symbol.specs.declared.Symbol.{Symbol}
 use Rattle.symbol.specs.declared.Symbol.TheVariants as symbol
 use Rattle.channel.specs.Calls.{handed}
 use Rattle.bank.specs.Bank.{BankCalls}
-use Rattle.port.specs.Port.{Buffers, Port, Turn, new_port, logged_in, with_buffers, is_full, received}
-use Rattle.port.specs.Port.{after_send, unsent, emptied, sent_on, lent_out, handed_out, among, released, injected_at}
+use Rattle.port.specs.Port.{Port, Turn, new_port, logged_in, received}
+use Rattle.port.specs.Port.{after_send, unsent, sent_on, handed_out, released, injected_at}
 use Rattle.port.specs.Port.{next_frame}
 use Rattle.model.specs.Chain.{sent, Chain, behind, facing, port_of, with_port, with_bank, is_end, takes_item, takes}
 use Rattle.model.specs.Chain.{drawn, sends_symbol, sends, each_port, ticked, stepped, last_tick, outbox_places, sound}
@@ -48,9 +44,6 @@ fresh_within m n a b k x y z = omega (arith, x, y, z)
 pub new_port_within : (m n : ℕ) → Within m n new_port
 new_port_within m n = fresh_within m n 1 1 0 (omega arith) (omega arith) (omega arith)
 
-tail_most : (ks : List Frame) → (length ks ≤ length (tail ks) + 1) × (length (tail ks) ≤ length ks)
-tail_most ks = grind arith
-
 module _ (m n : ℕ) (s : Port) (h : Within m n s) where
   taken_later : Within (m + 1) n s
   taken_later = later s (omega arith) (omega arith) h
@@ -62,24 +55,16 @@ module _ (m n : ℕ) (s : Port) (h : Within m n s) where
   sent_within o = grind (arith, h)
 
   unsent_within : Within m (n + 1) (unsent s)
-  unsent_within = omega (arith, h, tail_most s.outbox.frames)
-
-  emptied_within : (ws : List Frame) → s.buffers.waiting ≡ ws → Within m n (with_buffers s (emptied s.buffers ws))
-  emptied_within ws e = grind (arith, h)
+  unsent_within = grind (arith, h)
 
   sent_on_within : Within m n (sent_on s)
-  sent_on_within = emptied_within s.buffers.waiting refl
-
-  lent_within : (ws : List Frame) → s.buffers.waiting ≡ ws → Within m n (with_buffers s (lent_out s.buffers ws))
-  lent_within ws e = grind (arith, h)
+  sent_on_within = grind (arith, h)
 
   pub handed_within : Within m n (handed_out s)
-  handed_within = lent_within s.buffers.waiting refl
+  handed_within = grind (arith, h)
 
   pub released_within : (k : ℕ) → Within m n (released s k)
-  released_within k =
-      cond_both (among k s.buffers.out) _ _ (λ (b : Buffers). Within m n (with_buffers s b)) (λ e. omega (arith, h))
-      (λ e. h)
+  released_within k = grind (arith, nat_tests, h)
 
   pub injected_within : length s.outbox.frames < 32 → Within m n (injected_at s)
   injected_within z = omega (arith, h, z, length-append s.outbox.frames (next_frame s ∷ []))
@@ -177,11 +162,8 @@ module _ {B : Type 0} (M : BankCalls B) where
     drawn_own (symbol.Mark y) h = later (port_of c p) (omega arith) (omega arith) h
 
     drawn_off : (y : Symbol) (q : ℕ) → q ≢ p → Within m n (port_of c q) → Within m n (port_of (drawn M c p y) q)
-    drawn_off (symbol.Frame k) q d h =
-        cond_both (is_end c.links p) _ _ (λ (x : Chain B). Within m n (port_of x q))
-        (λ e. other_port (Within m n) c p q (unsent (port_of c p)) d h) (λ e. freed_within q h)
-    drawn_off symbol.RRdy q d h = h
-    drawn_off (symbol.Mark y) q d h = h
+    drawn_off y q d h =
+        grind (arith, nat_tests, freed_within q h, other_port (Within m n) c p q (unsent (port_of c p)) d h)
 
   sends_own : (m n : ℕ) (c : Chain B) (p : ℕ) → Within m n (port_of c p)
       → Within m (n + 1) (port_of (sends M c p).state p)

@@ -1,6 +1,6 @@
 -- Each call keeps what holds of a chain and the log of its run.
-use Rattle.std.proofs.Common.{◌≡◌, ℕ, zero, suc, ◌+◌, ◌*◌, ◌<◌, ◌≤◌, Bool, true, eqb, List, [], ◌∷◌, ◌++◌, length, Ok}
-use Rattle.std.proofs.Common.{sym, refl, ap, ◌∙◌, subst, append_assoc, append-nil, arith, length-append}
+use Rattle.std.proofs.Common.{◌≡◌, ℕ, zero, suc, ◌+◌, ◌*◌, ◌<◌, ◌≤◌, Bool, true, eqb, List, [], ◌∷◌, ◌++◌, Ok}
+use Rattle.std.proofs.Common.{sym, refl, subst, append_assoc, append-nil, arith, length-append}
 use mathlib.Core.Path.{transport}
 use Rattle.std.proofs.lemmas.Bool.{cond-true}
 use Rattle.symbol.specs.declared.Frame.{Frame}
@@ -15,7 +15,7 @@ use Rattle.model.specs.Chain.{injected, Chain, facing, port_of, with_port, end_p
 use Rattle.model.specs.Chain.{stepped, collects_by, released_at, on}
 use Rattle.model.specs.Run.{Log}
 use Rattle.model.specs.Figures.{frames_among}
-use Rattle.model.specs.OnePlace.{numbers, up_to}
+use Rattle.model.specs.OnePlace.{numbers}
 use Rattle.model.proofs.Accounts.{Account, noted_all, account}
 use Rattle.model.proofs.Banks.{bank_step}
 use Rattle.model.proofs.Cuts.{Cut}
@@ -28,7 +28,7 @@ use Rattle.model.proofs.Kept.{sends_kept}
 
 numbers-snoc : (fs : List Frame) (f : Frame) → numbers (fs ++ (f ∷ [])) ≡ numbers fs ++ (f.number ∷ [])
 numbers-snoc [] f = refl
-numbers-snoc (g ∷ gs) f = ap {B = List ℕ} (λ z. g.number ∷ z) (numbers-snoc gs f)
+numbers-snoc (g ∷ gs) f = grind (arith, numbers-snoc gs f)
 
 module _ {B : Type 0} (M : BankCalls B) (law : (b : B) → LawfulBank M b) where
   -- a tick: symbols stay where they are
@@ -122,19 +122,12 @@ module _ {B : Type 0} (M : BankCalls B) (law : (b : B) → LawfulBank M b) where
       end_act_kept c l e (injected_at (port_of c (end_port c e)))
       (event.Frame Injected (end_port c e) (next_frame (port_of c (end_port c e))) ∷ []) h some (λ p t z. (z, tt))
       (λ z. z) (λ z. z)
-      (record {
-        all = refl;
-        stocked = λ z. z;
-        puts = λ i. refl;
-        got = λ i g z. z;
-        fed = λ z. ap {B = List Frame} (λ r. r ++ (next_frame (port_of c (end_port c e)) ∷ [])) z
-            ∙ append_assoc (frames_among (account (end_port c e) l).puts) (port_of c (end_port c e)).outbox.frames
-            (next_frame (port_of c (end_port c e)) ∷ []);
-        handed = λ z. z;
-        numbered = λ z. numbers-snoc (account (end_port c e) l).injected (next_frame (port_of c (end_port c e)))
-            ∙ (λ i. z i ++ (next i ∷ [])) ∙ ap up_to (sym next);
-        cuts = λ z. z;
-      })
+      (grind (
+        arith,
+        next,
+        append_assoc (frames_among (account (end_port c e) l).puts) (port_of c (end_port c e)).outbox.frames,
+        numbers-snoc (account (end_port c e) l).injected,
+      ))
       (tt, tt)
     where
       next : (next_frame (port_of c (end_port c e))).number ≡ suc (port_of c (end_port c e)).outbox.injected
@@ -151,25 +144,14 @@ module _ {B : Type 0} (M : BankCalls B) (law : (b : B) → LawfulBank M b) where
       (l ++ (event.Frame Collected (end_port c e) k ∷ []))) (sym queue)
       (end_act_kept c l e (with_buffers s (lent_out s.buffers (k ∷ ks)))
       (event.Frame Collected (end_port c e) k ∷ []) h some (λ p t z. (z, tt)) (λ z. z) (λ z. z)
-      (record {
-        all = refl;
-        stocked =
-            λ z. omega (
-              arith,
-              z,
-              ap length queue,
-              length-append s.buffers.out (k.number ∷ []),
-              length-append
-                  a.collected (k ∷ []),
-            );
-        puts = λ i. refl;
-        got = λ i. absurd (end_outer c e i);
-        fed = λ z. z;
-        handed = λ z. z ∙ ap {B = List Frame} (λ r. a.collected ++ r) queue
-            ∙ sym (append_assoc a.collected (k ∷ []) ks);
-        numbered = λ z. z;
-        cuts = λ z. z;
-      })
+      (grind (
+        arith,
+        queue,
+        end_outer c e,
+        length-append s.buffers.out (k.number ∷ []),
+        length-append a.collected (k ∷ []),
+        append_assoc a.collected (k ∷ []) ks,
+      ))
       (tt, tt))
 
   -- release: the buffer of a frame that was handed out is free again
@@ -187,14 +169,5 @@ module _ {B : Type 0} (M : BankCalls B) (law : (b : B) → LawfulBank M b) where
       (on M c (facing (end_port c e))) (on M c (end_port c e)) (account (facing (end_port c e)) l)
       (account (end_port c e) l) (record { number = k }) []
       (omega (arith, h.stocked (end_port c e) (end_below c e some), fewer_without k s.buffers.out out)))
-      (record {
-        all = refl;
-        stocked = λ z. omega (arith, z, fewer_without k s.buffers.out out);
-        puts = λ i. refl;
-        got = λ i g z. z;
-        fed = λ z. z;
-        handed = λ z. z;
-        numbered = λ z. z;
-        cuts = λ z. z;
-      })
+      (grind (arith, fewer_without k s.buffers.out out))
       (tt, tt))

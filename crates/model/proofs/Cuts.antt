@@ -1,7 +1,7 @@
 -- The stretches of an account are those of what its port has taken.
-use Rattle.std.proofs.Common.{◌≡◌, ℕ, List, [], ◌∷◌, ◌++◌, sym, refl, ap, ◌∙◌, subst, arith}
+use Rattle.std.proofs.Common.{◌≡◌, ℕ, List, [], ◌∷◌, ◌++◌, refl, ap, ◌∙◌, subst, arith}
 use Rattle.symbol.specs.declared.Symbol.{Symbol}
-use Rattle.model.specs.Figures.{Stream, Frames, RRdys, Role, counted, mark, other, role}
+use Rattle.model.specs.Figures.{Stream, Frames, RRdys, role}
 use Rattle.model.specs.Stretches.{Fate, Arrived, UnderWay, more_good, Passage, last_good, Stretches, and_one, cut}
 use Rattle.model.specs.Stretches.{nothing_put, paired, taken_symbols, lost_among}
 use Rattle.model.proofs.Accounts.{Account}
@@ -63,13 +63,11 @@ pub record SameLosses (x y : Stretches) : Type 0 where
   pub ended : y.ended ≡ x.ended
   pub lost : lost_among y.still_open ≡ lost_among x.still_open
 
-one_under_way : (x y : Stretches) (r : Role) → SameLosses x y → SameLosses x (and_one y r UnderWay)
-one_under_way x y r h = grind (arith, h)
-
 all_on_the_way : (k : Stream) (x y : Stretches) (ss : List Symbol) → SameLosses x y
     → SameLosses x (cut k y (all_under_way ss))
 all_on_the_way k x y [] h = h
-all_on_the_way k x y (s ∷ ss) h = all_on_the_way k x (and_one y (role k s) UnderWay) ss (one_under_way x y (role k s) h)
+all_on_the_way k x y (s ∷ ss) h =
+    all_on_the_way k x (and_one y (role k s) UnderWay) ss (grind (arith, h))
 
 -- the stretches of what was put are those of what was taken
 pub put_stretches : (k : Stream) (ps : List Symbol) (ts : List Passage) (ss : List Symbol) (x : Stretches)

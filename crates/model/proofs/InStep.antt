@@ -1,9 +1,8 @@
 -- A counted stream: its sender, the symbols on its way, and its receiver keep in step.
-use Rattle.std.proofs.Common.{◌≡◌, ℕ, suc, ◌+◌, ◌-◌, ◌%◌, ◌^◌, ◌<◌, ◌≤◌, Bool, true, false, ◌&&◌, ◌||◌, eqb, ltb, List}
-use Rattle.std.proofs.Common.{[], ◌∷◌, ◌++◌, sym, refl, ap, ◌∙◌, subst, mod-lt, mod-eq_of_lt, arith, pow_pos}
+use Rattle.std.proofs.Common.{◌≡◌, ℕ, suc, ◌+◌, ◌-◌, ◌%◌, ◌^◌, ◌<◌, ◌≤◌, true, false, ◌&&◌, ◌||◌, eqb, ltb, List}
+use Rattle.std.proofs.Common.{[], ◌∷◌, ◌++◌, sym, refl, ap, ◌∙◌, mod-lt, mod-eq_of_lt, arith, pow_pos}
 use native.Mathlib.Nat.{mod-le, mod-add-mod, add-mod-mod, add-mod_left, mod-add-div, zero-mod}
 use Rattle.std.proofs.lemmas.Bool.Decides.{nat_tests}
-use Rattle.std.proofs.lemmas.Bool.{and_parts, eqb-true}
 use Rattle.std.specs.List.{AllByRecursion}
 use Rattle.port.specs.Port.{Outflow, lost_of}
 use Rattle.model.specs.Figures.{Role, counted, mark, other, one_counted, counted_in}
@@ -45,24 +44,21 @@ counted-snoc (x ∷ xs) r = omega (arith, counted-snoc xs r)
 
 marks-snoc : (m x : ℕ) (rs : List Role) (r : Role) → Marks m x rs → AtMark r m (x + counted_in rs)
     → Marks m x (rs ++ (r ∷ []))
-marks-snoc m x [] r h a = (subst (AtMark r m) (omega arith) a, tt)
-marks-snoc m x (y ∷ ys) r h a =
-    (h.0, marks-snoc m (x + one_counted y) ys r h.1 (subst (AtMark r m) (omega arith) a))
+marks-snoc m x [] r h a = grind arith
+marks-snoc m x (y ∷ ys) r h a = grind (arith, marks-snoc m (x + one_counted y) ys r)
 
 -- marks look at the count modulo m only
-at_mark_mod : (m x y : ℕ) (r : Role) → x % m ≡ y % m → AtMark r m x → AtMark r m y
-at_mark_mod m x y r e h = grind arith
-
 add_mod_eq : (m x y k : ℕ) → x % m ≡ y % m → (x + k) % m ≡ (y + k) % m
 add_mod_eq m x y k e = sym (mod-add-mod x m k) ∙ ap (λ (z : ℕ). (z + k) % m) e ∙ mod-add-mod y m k
 
 marks_mod : (m x y : ℕ) (rs : List Role) → x % m ≡ y % m → Marks m x rs → Marks m y rs
 marks_mod m x y [] e h = tt
-marks_mod m x y (r ∷ rs) e h = (
-  at_mark_mod m x y r e h.0,
-  marks_mod m (x + one_counted r) (y + one_counted r) rs
-      (add_mod_eq m x y (one_counted r) e) h.1,
-)
+marks_mod m x y (r ∷ rs) e h =
+    grind (
+      arith,
+      add_mod_eq m x y (one_counted r) e,
+      marks_mod m (x + one_counted r) (y + one_counted r) rs,
+    )
 
 module _ (n : ℕ) (out : Outflow) (got : ℕ) (x : Losses) where
   -- one more is put, which leaves the sender's count at o

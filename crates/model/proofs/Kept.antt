@@ -1,13 +1,13 @@
 -- What holds of a chain and the log of its run, and that each act of a port keeps it.
-use Rattle.std.proofs.Common.{◌≡◌, ℕ, ◌+◌, ◌-◌, ◌*◌, ◌<◌, ◌≤◌, min, Bool, true, false, cond, eqb, ltb, ◌≢◌, ◌⊎◌, ⊎_elim, List}
+use Rattle.std.proofs.Common.{◌≡◌, ℕ, ◌+◌, ◌-◌, ◌*◌, ◌<◌, ◌≤◌, min, Bool, true, false, cond, eqb, ltb, ◌≢◌, ◌⊎◌, ⊎_elim}
+use Rattle.std.proofs.Common.{List}
 use Rattle.std.proofs.Common.{[], ◌∷◌, ◌++◌, length, set, Some, None, Option, sym, refl, ap, ◌∙◌, subst, inl, inr}
 use Rattle.std.proofs.Common.{append_assoc, append-nil, arith, length-append, length-set, get_or-set_other}
 use Rattle.std.proofs.Common.{get_or-set_same, set-set}
 use mathlib.Core.Path.{transport}
 use lib.Seq.{set-get_or, set_comm}
-use Rattle.std.proofs.lemmas.Bool.{cond-false, eqb-true, eqb-false, eq-eqb, ne_eqb, cases_eq, ltb-true, or_cases}
+use Rattle.std.proofs.lemmas.Bool.{cond-false, eq-eqb, ne_eqb, cases_eq, ltb-true}
 use Rattle.std.proofs.lemmas.Bool.Decides.{nat_tests}
-use Rattle.std.proofs.lemmas.Bool.{or_parts}
 use Rattle.ring.specs.Queue.{head?, tail}
 use Rattle.symbol.specs.declared.Frame.{Frame}
 use Rattle.symbol.specs.declared.Item.{Item}
@@ -115,16 +115,7 @@ pub record Act (inner : Type 0) (s s' : Port) (a a' : Account) : Type 0 where
   pub cuts : Cut a → Cut a'
 
 pub no_change : (inner : Type 0) (s : Port) (a : Account) → Act inner s s a a
-no_change inner s a = record {
-  all = refl;
-  stocked = λ z. z;
-  puts = λ i. refl;
-  got = λ i g z. z;
-  fed = λ z. z;
-  handed = λ z. z;
-  numbered = λ z. z;
-  cuts = λ z. z;
-}
+no_change inner s a = grind arith
 
 -- an act that neither puts a frame, nor hands one out, nor is given one
 pub record Quiet (s s' : Port) (a a' : Account) : Type 0 where
@@ -138,16 +129,7 @@ pub record Quiet (s s' : Port) (a a' : Account) : Type 0 where
   pub cuts : Cut a → Cut a'
 
 pub quiet_act : (inner : Type 0) (s s' : Port) (a a' : Account) → Quiet s s' a a' → Act inner s s' a a'
-quiet_act inner s s' a a' q = record {
-  all = q.all;
-  stocked = q.stocked;
-  puts = λ i. q.puts;
-  got = λ i. q.got;
-  fed = λ z. q.injected ∙ z ∙ (λ i. sym q.puts i ++ (sym q.outbox i).frames);
-  handed = λ z. q.got a'.collected (z ∙ ap {B = List Frame} (λ r. r ++ s.buffers.waiting) (sym q.collected));
-  numbered = λ z. ap numbers q.injected ∙ z ∙ ap (λ (o : Outbox). up_to o.injected) (sym q.outbox);
-  cuts = q.cuts;
-}
+quiet_act inner s s' a a' q = grind (arith, q)
 
 on_same : {S : Sender} {R : Receiver} {f f' g g' : List Symbol} → f ≡ f' → g ≡ g' → LoopOf S R f' (roles RRdys g')
     → LoopOf S R f (roles RRdys g)
@@ -189,16 +171,7 @@ Stocks v = (length v.waiting + length v.out ≤ v.held) × (v.handed ≡ min (le
 
 -- an act that moves no frame
 unmoved : (s s' : Port) (a a' : Account) → shelf s' a' ≡ shelf s a → (Cut a → Cut a') → Quiet s s' a a'
-unmoved s s' a a' e cuts = record {
-  all = ap (λ (v : Shelf). v.all) e;
-  stocked = subst Stocks (sym e);
-  puts = ap (λ (v : Shelf). v.puts) e;
-  got = λ g z. ap (λ (v : Shelf). v.got) e ∙ z ∙ ap (λ (v : Shelf). g ++ v.waiting) (sym e);
-  injected = ap (λ (v : Shelf). v.injected) e;
-  collected = ap (λ (v : Shelf). v.collected) e;
-  outbox = ap (λ (v : Shelf). v.outbox) e;
-  cuts = cuts;
-}
+unmoved s s' a a' e cuts = grind (arith, e, cuts)
 
 module _ (x : ℕ) (s : Port) (a : Account) where
   quiet_credit : (t : Bool) → Quiet s (cond t s (credit_back s)) a (noted a (event.Item Got x symbol.RRdy))
@@ -349,11 +322,12 @@ module _ {B : Type 0} (M : BankCalls B) (law : (b : B) → LawfulBank M b) where
     meets : (y : Symbol) → Loop (port_of c x) (port_of c w) (on M c x) (y ∷ symbols is) (account x l) (account w l)
         → Loop (port_of c w) (port_of c x) (y ∷ symbols is) (on M c x) (account w l) (account x l)
         → MeetsRoom (λ p. (port_of c p).buffers.all) l x y
-    meets (symbol.Frame k) a b =
-        frame_room (port_of c w) (port_of c x) k (symbols is) (on M c x) (account w l) (account x l) b
-    meets symbol.RRdy a b = rrdy_room (port_of c x) (port_of c w) (on M c x) (symbols is) (account x l) (account w l) a
-    meets (symbol.Mark BbScS) a b = tt
-    meets (symbol.Mark BbScR) a b = tt
+    meets y a b =
+        grind (
+          arith,
+          frame_room (port_of c w) (port_of c x),
+          rrdy_room (port_of c x) (port_of c w),
+        )
 
     pub take_kept : Invariant M
         (with_port (with_bank c (M.take c.bank w)) x (received (port_of c x) i.note i.symbol))
@@ -418,29 +392,20 @@ module _ {B : Type 0} (M : BankCalls B) (law : (b : B) → LawfulBank M b) where
   -- a port puts what is no frame
   quiet_put : (x : ℕ) (s : Port) (a : Account) (y : Symbol) → frames_among (y ∷ []) ≡ []
       → Quiet s (has_sent s y) a (noted a (event.Item Put x y))
-  quiet_put x s a (symbol.Frame k) none = absurd cc
-  quiet_put x s a symbol.RRdy none = unmoved _ _ _ _ (ap (shelf_by s a) (frames_same a.puts symbol.RRdy none)) (λ z. z)
-  quiet_put x s a (symbol.Mark BbScS) none =
-      unmoved _ _ _ _ (ap (shelf_by s a) (frames_same a.puts (symbol.Mark BbScS) none)) (λ z. z)
-  quiet_put x s a (symbol.Mark BbScR) none =
-      unmoved _ _ _ _ (ap (shelf_by s a) (frames_same a.puts (symbol.Mark BbScR) none)) (λ z. z)
+  quiet_put x s a y none = grind (arith, frames_same a.puts y none)
 
   -- an end puts the oldest frame of its outbox
   end_act : (x : ℕ) (inner : Type 0) (s : Port) (a : Account) (k : Frame) (ks : List Frame) → (inner → ⊥)
       → s.outbox.frames ≡ k ∷ ks
       → Act inner s (has_sent (unsent s) (symbol.Frame k)) a (noted a (event.Item Put x (symbol.Frame k)))
-  end_act x inner s a k ks outer box = record {
-    all = refl;
-    stocked = λ z. z;
-    puts = λ i. absurd (outer i);
-    got = λ i g z. z;
-    fed = λ z. z ∙ ap {B = List Frame} (λ r. frames_among a.puts ++ r) box
-        ∙ sym (append_assoc (frames_among a.puts) (k ∷ []) ks)
-        ∙ sym (λ i. frames-append a.puts (symbol.Frame k ∷ []) i ++ tail (box i));
-    handed = λ z. z;
-    numbered = λ z. z;
-    cuts = λ z. z;
-  }
+  end_act x inner s a k ks outer box =
+      grind (
+        arith,
+        outer,
+        box,
+        frames-append a.puts (symbol.Frame k ∷ []),
+        append_assoc (frames_among a.puts) (k ∷ []) ks,
+      )
 
   -- a port that is no end puts the oldest frame that waits at z, for which it sends
   module _ (c : Chain B) (l : Log) (x w z : ℕ) (k : Frame) (ks : List Frame) (h : Invariant M c l)
@@ -578,14 +543,14 @@ module _ {B : Type 0} (M : BankCalls B) (law : (b : B) → LawfulBank M b) where
     passed p q pl m0 m1 f =
         ⊎_elim
         (λ (e : p ≡ x).
-            let qz : q ≡ z = sym f ∙ ap behind e ∙ bx in
-            transport
-            (λ i. (account (sym qz i) both_log).got
-            ≡ frames_among (account (sym e i) both_log).puts ++ (port_of sent_by
-            (sym qz i)).buffers.waiting) x_passed)
+        let qz : q ≡ z = sym f ∙ ap behind e ∙ bx in
+        transport
+        (λ i. (account (sym qz i) both_log).got
+        ≡ frames_among (account (sym e i) both_log).puts ++ (port_of sent_by
+        (sym qz i)).buffers.waiting) x_passed)
         (λ (n : p ≢ x). (same_frames q).got ∙ h.passed_on p q pl m0 m1 f
-            ∙ (λ i. frames_among (sym (same_puts p n) i) ++ sym
-            (still_waits q (λ d. n (behind_one p x m0 n0 (f ∙ d ∙ sym bx)))) i))
+        ∙ (λ i. frames_among (sym (same_puts p n) i) ++ sym
+        (still_waits q (λ d. n (behind_one p x m0 n0 (f ∙ d ∙ sym bx)))) i))
         (cases_eq p x)
 
     pub inner_put_kept : Invariant M sent_by both_log

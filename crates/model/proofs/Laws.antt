@@ -16,7 +16,7 @@ use Rattle.model.specs.Chain.{collects, releases}
 use Rattle.model.specs.Run.{Log, Phase, Moving, Run, is_cabled, is_running, is_draining, login, start, inject, step}
 use Rattle.model.specs.Run.{collect, release, drain}
 use Rattle.model.specs.Figures.{Stream, Frames, RRdys, reported_lost, made_good, puts, injected, ticks}
-use Rattle.model.specs.Stretches.{taken, taken_symbols, stretches, cut, nothing_put, lost_in, good_among}
+use Rattle.model.specs.Stretches.{taken, taken_symbols, cut, nothing_put, lost_in, good_among}
 use Rattle.model.specs.CreditSum.{SumOfSix, CreditSum}
 use Rattle.model.specs.WholeParts.{WholePart, InParts}
 use Rattle.model.specs.OnePlace.{numbers, up_to, over_links, hop, taker, places, OfOneEnd}
@@ -24,7 +24,7 @@ use Rattle.model.specs.RecordsTell.{PortTold, WayTold, PortInBounds}
 use Rattle.model.specs.Laws.{Holds, EveryRun, Continues}
 use Rattle.model.proofs.Accounts.{Losses, account}
 use Rattle.model.proofs.Told.{told}
-use Rattle.model.proofs.Cuts.{SameLosses, put_stretches}
+use Rattle.model.proofs.Cuts.{put_stretches}
 use Rattle.model.proofs.InStep.{Wholes}
 use Rattle.model.proofs.Loop.{Loop}
 use Rattle.model.proofs.Records.{AllMeetRoom, room_at}

@@ -1,38 +1,21 @@
 -- No act of a port changes the links or the tick.
-use Rattle.std.proofs.Common.{◌≡◌, ℕ, zero, suc, Some, None, Option, refl, ◌∙◌}
+use Rattle.std.proofs.Common.{◌≡◌, ℕ, zero, suc, refl, ◌∙◌}
 use Rattle.std.proofs.Common.{arith}
 use Rattle.std.proofs.lemmas.Bool.Decides.{nat_tests}
-use Rattle.symbol.specs.declared.Item.{Item}
-use Rattle.symbol.specs.declared.Symbol.{Symbol}
-use Rattle.symbol.specs.declared.Symbol.TheVariants as symbol
-use Rattle.channel.specs.Calls.{handed}
 use Rattle.bank.specs.Bank.{BankCalls}
-use Rattle.port.specs.Port.{Turn, after_send}
-use Rattle.model.specs.Chain.{sent, Chain, each_port, takes, takes_item, sends, sends_symbol, drawn, is_end}
-use Rattle.model.specs.Chain.{with_port, with_bank, port_of, facing, sound}
+use Rattle.port.specs.Port.{Turn}
+use Rattle.model.specs.Chain.{Chain, each_port, takes, sends}
 
 pub record Still {B : Type 0} (c d : Chain B) : Type 0 where
   pub links : d.links ≡ c.links
   pub tick : d.tick ≡ c.tick
 
 module _ {B : Type 0} (M : BankCalls B) where
-  by_item : (c : Chain B) (p : ℕ) (o : Option Item) → Still c (takes_item M c p o).state
-  by_item c p o = grind arith
-
   pub takes_still : (c : Chain B) (p : ℕ) → Still c (takes M c p).state
-  takes_still c p =
-      let h = by_item (with_bank c (M.take c.bank (facing p))) p (handed (M.known c.bank (facing p))) in
-      record { links = h.links; tick = h.tick }
-
-  drawn_still : (c : Chain B) (p : ℕ) (s : Symbol) → Still c (drawn M c p s)
-  drawn_still c p s = grind (arith, nat_tests)
-
-  by_symbol : (c : Chain B) (p : ℕ) (o : Option Symbol) → Still c (sends_symbol M c p o).state
-  by_symbol c p o = grind (arith, drawn_still)
+  takes_still c p = grind arith
 
   pub sends_still : (c : Chain B) (p : ℕ) → Still c (sends M c p).state
-  sends_still c p = let h = by_symbol (with_port c p (after_send (port_of c p) (sent M c p))) p (sent M c p) in
-      record { links = h.links; tick = h.tick }
+  sends_still c p = grind (arith, nat_tests)
 
 pub each_still : {B : Type 0} (f : Chain B → ℕ → Turn (Chain B)) → ((c : Chain B) (p : ℕ) → Still c (f c p).state)
     → (c : Chain B) (k : ℕ) → Still c (each_port f k c).state

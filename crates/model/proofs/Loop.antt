@@ -1,9 +1,10 @@
 -- One loop of credit: the port that sends frames, the port that takes them and sends R_RDYs, and what is under way
 -- between them.
 use Rattle.std.proofs.Common.{◌≡◌, ℕ, ◌+◌, ◌%◌, ◌^◌, ◌<◌, ◌≤◌, min, Bool, true, false, cond, ◌&&◌, ◌||◌, eqb, ltb}
-use Rattle.std.proofs.Common.{List, [], ◌∷◌, ◌++◌, sym, refl, ap, ◌∙◌, subst, append_assoc, add-zero, zero-add, arith}
+use Rattle.std.proofs.Common.{List, [], ◌∷◌, ◌++◌, sym, refl, ap, ◌∙◌, subst, append_assoc, arith}
 use native.Mathlib.Nat.{mod-le}
-use Rattle.std.proofs.lemmas.Bool.{cond-false, eqb-true, ne_eqb}
+use Rattle.std.proofs.lemmas.Bool.Decides.{nat_tests}
+use Rattle.std.proofs.lemmas.Bool.{cond-false, ne_eqb}
 use Rattle.symbol.specs.declared.Frame.{Frame}
 use Rattle.symbol.specs.declared.Mark.TheVariants.{BbScS, BbScR}
 use Rattle.symbol.specs.declared.Note.{Note}
@@ -18,8 +19,8 @@ use Rattle.port.specs.Port.{frame_held, is_full, credit_back, frames_found, rrdy
 use Rattle.port.specs.Port.{rrdys_corrected, frames_made_good, rrdys_made_good, with_buffers, emptied}
 use Rattle.model.specs.Run.{Log}
 use Rattle.model.specs.Figures.{Stream, Frames, RRdys, Role, counted, role, roles, counted_in, one_counted, how_many}
-use Rattle.model.specs.Stretches.{Passage, Arrived, last_good}
-use Rattle.model.proofs.Accounts.{Losses, Tally, Account, noted, noted_all, with_tallies, with_taken, buffers_in_use}
+use Rattle.model.specs.Stretches.{Passage, Arrived}
+use Rattle.model.proofs.Accounts.{Losses, Tally, Account, noted, noted_all, with_tallies, buffers_in_use}
 use Rattle.model.proofs.Accounts.{credit_used, with_got, with_mark}
 use Rattle.model.proofs.Cuts.{last_good-snoc}
 use Rattle.model.proofs.InStep.{InStep, open_lost, found, counted-snoc, put_counted, put_mark}
@@ -136,10 +137,10 @@ how_many-snoc : (k : Stream) (xs : List Symbol) (y : Symbol)
 how_many-snoc k xs y = ap counted_in (roles-snoc k xs y) ∙ counted-snoc (roles k xs) (role k y)
 
 taken_next : (xs : List Symbol) (y : Symbol) (ys zs : List Symbol) → zs ≡ xs ++ (y ∷ ys) → zs ≡ xs ++ (y ∷ []) ++ ys
-taken_next xs y ys zs e = e ∙ sym (append_assoc xs (y ∷ []) ys)
+taken_next xs y ys zs e = grind (arith, append_assoc xs (y ∷ []) ys)
 
 puts_next : (xs ys zs : List Symbol) (y : Symbol) → zs ≡ xs ++ ys → zs ++ (y ∷ []) ≡ xs ++ (ys ++ (y ∷ []))
-puts_next xs ys zs y e = ap {B = List Symbol} (λ r. r ++ (y ∷ [])) e ∙ append_assoc xs ys (y ∷ [])
+puts_next xs ys zs y e = grind (arith, append_assoc xs ys (y ∷ []))
 
 -- a stream's tally after a sound mark: g made good in all, k of them by this mark
 abbrev marked : Tally → ℕ → ℕ → Tally
@@ -155,29 +156,16 @@ rrdys_marked a g k ts = with_tallies a a.frames (marked a.rrdys g k) (symbol.Mar
 abbrev mark_taken : Account → Symbol → ℕ → List Passage
 mark_taken a y k = a.takes ++ (record { symbol = y; fate = Arrived k } ∷ [])
 
--- the records of a sound mark that makes k good come to that: by what an account is to what was made good and taken
-module _ (f : ℕ → ℕ → List Passage → Account) (a : Account) (y : Symbol) (g k : ℕ) where
-  none_good : eqb k 0 ≡ true → f g 0 (mark_taken a y 0) ≡ f (g + k) k (mark_taken a y k)
-  none_good e =
-      ap (λ (z : ℕ). f z 0 (mark_taken a y 0)) (sym (add-zero g))
-      ∙ ap (λ (x : ℕ). f (g + x) x (mark_taken a y x)) (sym (eqb-true k 0 e))
-
-  some_good : f (g + k) (0 + k) (last_good k (mark_taken a y 0)) ≡ f (g + k) k (mark_taken a y k)
-  some_good =
-      ap (f (g + k) (0 + k)) (last_good-snoc k a.takes (record { symbol = y; fate = Arrived 0 }))
-      ∙ ap (λ (x : ℕ). f (g + k) x (mark_taken a y x)) (zero-add k)
-
+-- the records of a sound mark that makes k good come to that
 frames_account : (at : ℕ) (a : Account) (k : ℕ) (t : Bool) → eqb k 0 ≡ t
     → noted_all (noted a (event.Item Got at (symbol.Mark BbScS))) (cond t [] (event.MadeGood at BbScS k ∷ []))
     ≡ frames_marked a (a.frames.losses.good + k) k (mark_taken a (symbol.Mark BbScS) k)
-frames_account at a k true e = none_good (frames_marked a) a (symbol.Mark BbScS) a.frames.losses.good k e
-frames_account at a k false e = some_good (frames_marked a) a (symbol.Mark BbScS) a.frames.losses.good k
+frames_account at a k t e = grind (arith, nat_tests, last_good-snoc k a.takes)
 
 rrdys_account : (at : ℕ) (a : Account) (k : ℕ) (t : Bool) → eqb k 0 ≡ t
     → noted_all (noted a (event.Item Got at (symbol.Mark BbScR))) (cond t [] (event.MadeGood at BbScR k ∷ []))
     ≡ rrdys_marked a (a.rrdys.losses.good + k) k (mark_taken a (symbol.Mark BbScR) k)
-rrdys_account at a k true e = none_good (rrdys_marked a) a (symbol.Mark BbScR) a.rrdys.losses.good k e
-rrdys_account at a k false e = some_good (rrdys_marked a) a (symbol.Mark BbScR) a.rrdys.losses.good k
+rrdys_account at a k t e = grind (arith, nat_tests, last_good-snoc k a.takes)
 
 abbrev one_more : Outflow → ℕ → Outflow
 one_more o n = record { sent = (o.sent + 1) % 2 ^ n; due = o.due || (eqb ((o.sent + 1) % 2 ^ n) 0 && ltb 0 n) }
@@ -200,26 +188,7 @@ module _ (at : ℕ) (s r : Port) (fwd back : List Symbol) (a b : Account) where
 
   pub receiver_misses : (y : Symbol) → Loop s r (y ∷ fwd) back a b
       → Loop s (missed r y) fwd back a (noted b (event.Item Missed at y))
-  receiver_misses (symbol.Frame k) h =
-      loop_by (omega (arith, h)) (lose_counted _ _ _ _ _ h.frames) h.rrdys (taken_next _ _ _ _ h.order)
-  receiver_misses symbol.RRdy h =
-      loop_by (omega (arith, h)) (take_other _ _ _ _ _ h.frames) h.rrdys (taken_next _ _ _ _ h.order)
-  receiver_misses (symbol.Mark BbScS) h =
-      loop_by (omega (arith, h)) (lose_mark _ _ _ _ _ h.frames) h.rrdys (taken_next _ _ _ _ h.order)
-  receiver_misses (symbol.Mark BbScR) h =
-      loop_by (omega (arith, h)) (take_other _ _ _ _ _ h.frames) h.rrdys (taken_next _ _ _ _ h.order)
-
-  -- a frame, kept or dropped, is nothing to the loop in which the port sends
-  sender_holds : (k : Frame) (t : Bool) → Loop s r fwd back a b
-      → Loop (cond t s (frame_held s k)) r fwd back (noted a (event.Item Got at (symbol.Frame k))) b
-  sender_holds k true h = h
-  sender_holds k false h = h
-
-  sender_corrects : (k : ℕ) (t : Bool) → Loop s r fwd back a b
-      → Loop (frames_corrected s) r fwd back
-      (noted_all (noted a (event.Item Got at (symbol.Mark BbScS))) (cond t [] (event.MadeGood at BbScS k ∷ []))) b
-  sender_corrects k true h = h
-  sender_corrects k false h = h
+  receiver_misses y h = grind (arith, h, take_other, lose_mark, lose_counted, append_assoc {A = Symbol})
 
   -- R_RDYs found lost: as many as were, and never more than the credit in use
   rrdys_found_is : Loop s r fwd (symbol.Mark BbScR ∷ back) a b → rrdys_found s ≡ lost_of s.n s.rrdys_in.got
@@ -240,28 +209,17 @@ module _ (at : ℕ) (s r : Port) (fwd back : List Symbol) (a b : Account) where
 
   pub sender_gets : (y : Symbol) → Loop s r fwd (y ∷ back) a b
       → Loop (arrived s y) r fwd back (noted_all a (taken_events at s Sound y)) b
-  sender_gets (symbol.Frame k) h = sender_holds k (is_full s.buffers) (loop_by (omega (arith, h)) h.frames (take_other _ _ _ _ _ h.rrdys) h.order)
+  sender_gets (symbol.Frame k) h = grind (arith, nat_tests, h, take_other)
   sender_gets symbol.RRdy h =
       subst (λ (z : Port). Loop z r fwd back (noted a (event.Item Got at symbol.RRdy)) b)
       (sym (cond-false _ s (credit_back s) (ne_eqb _ _ (λ e. omega (arith, h)))))
       (loop_by (omega (arith, h)) h.frames (get_counted _ _ _ _ _ h.rrdys) h.order)
-  sender_gets (symbol.Mark BbScS) h = sender_corrects (frames_found s) (eqb (frames_found s) 0) (loop_by (omega (arith, h)) h.frames (take_other _ _ _ _ _ h.rrdys) h.order)
+  sender_gets (symbol.Mark BbScS) h = grind (arith, nat_tests, h, take_other)
   sender_gets (symbol.Mark BbScR) h =
       subst (λ (z : Account). Loop (rrdys_corrected s) r fwd back z b)
       (sym (rrdys_account at a (rrdys_found s) (eqb (rrdys_found s) 0) refl))
       (sender_marked (rrdys_found s) (rrdys_found_is h)
       (omega (arith, rrdys_found_is h, found _ _ _ _ _ h.rrdys, mod-le (open_lost a.rrdys.losses) (2 ^ s.n))) h)
-
-  receiver_credits : (t : Bool) → Loop s r fwd back a (with_taken b symbol.RRdy)
-      → Loop s (cond t r (credit_back r)) fwd back a (noted b (event.Item Got at symbol.RRdy))
-  receiver_credits true h = h
-  receiver_credits false h = h
-
-  receiver_corrects : (k : ℕ) (t : Bool) → Loop s r fwd back a (with_taken b (symbol.Mark BbScR))
-      → Loop s (rrdys_corrected r) fwd back a
-      (noted_all (noted b (event.Item Got at (symbol.Mark BbScR))) (cond t [] (event.MadeGood at BbScR k ∷ [])))
-  receiver_corrects k true h = h
-  receiver_corrects k false h = h
 
   -- frames found lost: as many as were, and never more than the free buffers
   frames_found_is : Loop s r (symbol.Mark BbScS ∷ fwd) back a b → frames_found r ≡ lost_of s.n r.frames_in.got
@@ -293,14 +251,14 @@ module _ (at : ℕ) (s r : Port) (fwd back : List Symbol) (a b : Account) where
       (λ (x : ℕ). InStep s.n s.frames_out ((r.frames_in.got + 1) % 2 ^ x) (roles Frames fwd) (with_got b.frames.losses))
       h.figures.same_n (get_counted _ _ _ _ _ h.frames))
       h.rrdys (taken_next _ _ _ _ h.order))
-  receiver_gets symbol.RRdy h = receiver_credits (eqb r.credit.used 0) (loop_by (omega (arith, h)) (take_other _ _ _ _ _ h.frames) h.rrdys (taken_next _ _ _ _ h.order))
+  receiver_gets symbol.RRdy h = grind (arith, nat_tests, h, take_other, append_assoc {A = Symbol})
   receiver_gets (symbol.Mark BbScS) h =
       subst (λ (z : Account). Loop s (frames_corrected r) fwd back a z)
       (sym (frames_account at b (frames_found r) (eqb (frames_found r) 0) refl))
       (receiver_marked (frames_found r) (frames_found_is h)
       (omega
       (arith, frames_found_is h, found _ _ _ _ _ h.frames, mod-le (open_lost b.frames.losses) (2 ^ s.n))) h)
-  receiver_gets (symbol.Mark BbScR) h = receiver_corrects (rrdys_found r) (eqb (rrdys_found r) 0) (loop_by (omega (arith, h)) (take_other _ _ _ _ _ h.frames) h.rrdys (taken_next _ _ _ _ h.order))
+  receiver_gets (symbol.Mark BbScR) h = grind (arith, nat_tests, h, take_other, append_assoc {A = Symbol})
 
   -- an item taken, sound or lost
   pub sender_takes : (v : Note) (y : Symbol) → Loop s r fwd (y ∷ back) a b
@@ -369,10 +327,7 @@ HasRoom r (symbol.Mark BbScR) = Unit {0}
 
 pub room : (s r : Port) (fwd back : List Symbol) (a b : Account) (y : Symbol) → Loop s r (y ∷ fwd) back a b
     → HasRoom r y
-room s r fwd back a b (symbol.Frame k) h = ne_eqb _ _ (λ e. omega (arith, h))
-room s r fwd back a b symbol.RRdy h = tt
-room s r fwd back a b (symbol.Mark BbScS) h = tt
-room s r fwd back a b (symbol.Mark BbScR) h = tt
+room s r fwd back a b y h = grind (arith, nat_tests, h)
 
 -- by the records, a frame under way has a free buffer and an R_RDY under way a credit in use
 pub frame_room : (s r : Port) (k : Frame) (fwd back : List Symbol) (a b : Account)

@@ -1,7 +1,6 @@
 -- Every record of every run is well-formed.
-use Rattle.std.proofs.Common.{◌≡◌, ℕ, ◌+◌, ◌*◌, ◌<◌, ◌≤◌, Bool, true, false, cond, eqb, ltb, [], ◌∷◌, ◌++◌}
-use Rattle.std.proofs.Common.{Some, None, Ok, Err, Option, sym, refl, subst, append-nil, arith}
-use Rattle.ring.specs.Queue.{head?}
+use Rattle.std.proofs.Common.{◌≡◌, ℕ, ◌+◌, ◌*◌, ◌<◌, ◌≤◌, [], ◌∷◌, ◌++◌}
+use Rattle.std.proofs.Common.{None, Ok, Option, sym, subst, append-nil, arith}
 use Rattle.symbol.specs.declared.Frame.{Frame}
 use Rattle.eventlog.specs.declared.event.Event.TheVariants as event
 use Rattle.eventlog.specs.declared.event.FrameKind.{FrameKind}
@@ -11,8 +10,7 @@ use Rattle.port.specs.Port.{next_frame, Port, Turn, no_act, handed_out, released
 use Rattle.symbol.specs.declared.end.End.{End}
 use Rattle.symbol.specs.declared.end.End.TheVariants.{West, East}
 use Rattle.model.specs.declared.Refusal.{Refusal}
-use Rattle.model.specs.declared.Refusal.TheVariants as refusal
-use Rattle.model.specs.Chain.{injected, call_bytes, Chain, port_of, with_port, end_port, stepped, from_oldest}
+use Rattle.model.specs.Chain.{injected, Chain, port_of, with_port, end_port, stepped}
 use Rattle.model.specs.Chain.{collects_by, collects, released_at, logs_in, step_refusal, inject_refusal}
 use Rattle.model.specs.Chain.{release_refusal, login_refusal, unless_refused}
 use Rattle.model.specs.Run.{new, login, start, inject, step, collect, release, drain, Log, Phase, Run}
@@ -20,7 +18,8 @@ use Rattle.model.proofs.Places.{end_below}
 use Rattle.model.proofs.Readable.{FineNumber, FineSymbols, FinePort, FineOldest, Fine, FineTurn, FineRun, fresh_fine}
 use Rattle.model.proofs.Readable.{well_frame, fine_port, fine_more, oldest_fine, handed_out_fine, released_fine}
 use Rattle.model.proofs.Readable.{next_fine, injected_fine, number_found, step_fine}
-use Rattle.model.proofs.Runs.{collect_cases, unless, new_ports, cabling, inject_fits, login_fits, step_early, released_out, run_bounded}
+use Rattle.model.proofs.Runs.{collect_cases, unless, new_ports, cabling, inject_fits, login_fits, step_early}
+use Rattle.model.proofs.Runs.{released_out, run_bounded}
 
 module _ {B : Type 0} (M : BankCalls B) (law : (b : B) → LawfulBank M b) where
   -- every record of a run is well-formed

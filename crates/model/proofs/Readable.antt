@@ -1,12 +1,12 @@
 -- Every record of a run is well-formed, so its log reads back as its events.
-use Rattle.std.proofs.Common.{◌≡◌, ℕ, zero, suc, ◌+◌, ◌-◌, ◌*◌, ◌^◌, ◌<◌, ◌≤◌, Bool, true, false, cond, ◌&&◌, ◌||◌}
-use Rattle.std.proofs.Common.{eqb, ltb, ◌≢◌, ⊎_elim, List, [], ◌∷◌, ◌++◌, Some, None, Option, sym, refl, subst, inl, inr}
+use Rattle.std.proofs.Common.{◌≡◌, ℕ, zero, suc, ◌+◌, ◌-◌, ◌*◌, ◌^◌, ◌<◌, ◌≤◌, Bool, true, false, cond, ◌&&◌}
+use Rattle.std.proofs.Common.{eqb, ◌≢◌, ⊎_elim, List, [], ◌∷◌, ◌++◌, Some, None, Option, sym, refl, subst}
 use Rattle.std.proofs.Common.{mod-lt, arith, pow_pos, pow_mono}
 use Rattle.std.proofs.ByRecursion.{All-append}
 use Rattle.std.proofs.lemmas.Bool.Decides.{nat_tests}
-use Rattle.std.proofs.lemmas.Bool.{cond_both, lt-ltb, eqb-false, eqb-true, cases_eq, or_parts, false≢true}
+use Rattle.std.proofs.lemmas.Bool.{cond_both, lt-ltb, cases_eq, false≢true}
 use Rattle.std.specs.List.{AllByRecursion}
-use Rattle.ring.specs.Queue.{head?, tail}
+use Rattle.ring.specs.Queue.{head?}
 use Rattle.symbol.specs.declared.Frame.{Frame}
 use Rattle.symbol.specs.declared.Item.{Item}
 use Rattle.symbol.specs.declared.Mark.{Mark}
@@ -19,14 +19,14 @@ use Rattle.eventlog.specs.declared.event.Event.TheVariants as event
 use Rattle.eventlog.specs.declared.event.FrameKind.{FrameKind}
 use Rattle.eventlog.specs.declared.event.FrameKind.TheVariants.{Freed}
 use Rattle.eventlog.specs.declared.event.ItemKind.{ItemKind}
-use Rattle.eventlog.specs.declared.event.ItemKind.TheVariants.{Put, Got, Lost as Missed}
+use Rattle.eventlog.specs.declared.event.ItemKind.TheVariants.{Put}
 use Rattle.reader.specs.Reading.{WellFormed}
 use Rattle.bank.specs.Bank.{BankCalls, LawfulBank}
-use Rattle.port.specs.Port.{Buffers, Port, Turn, and_then, logged_in, lost_of, frames_found, rrdys_found, correction, is_full}
-use Rattle.port.specs.Port.{frame_held, credit_back, received, receive_events, frame_of, choice, after_send, emptied}
-use Rattle.port.specs.Port.{sent_on, unsent, with_buffers, lent_out, handed_out, among, without, released}
+use Rattle.port.specs.Port.{Port, Turn, and_then, logged_in, lost_of, frames_found, rrdys_found, correction, is_full}
+use Rattle.port.specs.Port.{frame_held, credit_back, received, receive_events, choice, after_send}
+use Rattle.port.specs.Port.{sent_on, unsent, handed_out, among, without, released}
 use Rattle.port.specs.Port.{next_frame, injected_at}
-use Rattle.model.specs.Chain.{Chain, facing, behind, is_end, freed_events, sound, symbols, port_of, with_port}
+use Rattle.model.specs.Chain.{Chain, facing, behind, freed_events, sound, symbols, port_of, with_port}
 use Rattle.model.specs.Chain.{with_bank, on, each_port, takes_item, takes, source, drawn, sends_symbol, sends, ticked}
 use Rattle.model.specs.Chain.{stepped, last_tick}
 use Rattle.model.specs.Run.{Log}
@@ -87,7 +87,13 @@ found_small n got x h z =
     omega (arith, below, top, z)
 
 correction_small : (s : Port) (v : Note) (y : Symbol) → s.n ≤ 15 → correction s v y < 65536
-correction_small s v y h = grind (arith, nat_tests, found_small s.n s.frames_in.got (frames_found s), found_small s.n s.rrdys_in.got (rrdys_found s))
+correction_small s v y h =
+    grind (
+      arith,
+      nat_tests,
+      found_small s.n s.frames_in.got (frames_found s),
+      found_small s.n s.rrdys_in.got (rrdys_found s),
+    )
 
 -- a port stays fine
 module _ (s : Port) (h : FinePort s) where
@@ -109,60 +115,27 @@ module _ (s : Port) (h : FinePort s) where
   sent_fine : (o : Option Symbol) → FinePort (after_send s o)
   sent_fine o = grind (arith, h)
 
-  tail_fine : (fs : List Frame) → FineFrames fs → FineFrames (tail fs)
-  tail_fine fs z = grind arith
-
   unsent_fine : FinePort (unsent s)
-  unsent_fine = record {
-    small = h.small;
-    boxed = tail_fine s.outbox.frames h.boxed;
-    wait = h.wait;
-    outside = h.outside;
-  }
-
-  emptied_fine : (ws : List Frame) → FineFrames ws → FinePort (with_buffers s (emptied s.buffers ws))
-  emptied_fine ws z = grind (arith, h)
+  unsent_fine = grind (arith, h)
 
   sent_on_fine : FinePort (sent_on s)
-  sent_on_fine = emptied_fine s.buffers.waiting h.wait
-
-  lent_fine : (ws : List Frame) → FineFrames ws → FinePort (with_buffers s (lent_out s.buffers ws))
-  lent_fine [] z = h
-  lent_fine (f ∷ fs) z = record {
-    small = h.small;
-    boxed = h.boxed;
-    wait = z.1;
-    outside = All-append FineNumber s.buffers.out (f.number ∷ []) h.outside (z.0, tt);
-  }
+  sent_on_fine = grind (arith, h)
 
   pub handed_out_fine : FinePort (handed_out s)
-  handed_out_fine = lent_fine s.buffers.waiting h.wait
+  handed_out_fine = grind (arith, h, All-append FineNumber s.buffers.out)
 
   without_fine : (k : ℕ) (ks : List ℕ) → AllByRecursion FineNumber ks → AllByRecursion FineNumber (without k ks)
   without_fine k [] z = tt
-  without_fine k (x ∷ xs) z =
-      cond_both (eqb x k) (without k xs) (x ∷ without k xs) (AllByRecursion FineNumber) (λ e. without_fine k xs z.1)
-      (λ e. (z.0, without_fine k xs z.1))
+  without_fine k (x ∷ xs) z = grind (arith, nat_tests, without_fine k xs)
 
   pub released_fine : (k : ℕ) → FinePort (released s k)
-  released_fine k =
-      cond_both (among k s.buffers.out) _ _ (λ (b : Buffers). FinePort (with_buffers s b)) (λ e. record {
-        small = h.small;
-        boxed = h.boxed;
-        wait = h.wait;
-        outside = without_fine k s.buffers.out h.outside;
-      }) (λ e. h)
+  released_fine k = grind (arith, nat_tests, h, without_fine k s.buffers.out)
 
   pub next_fine : FineNumber (next_frame s).number
   next_fine = (omega arith, omega arith)
 
   pub injected_fine : FinePort (injected_at s)
-  injected_fine = record {
-    small = h.small;
-    boxed = All-append (λ g. FineNumber g.number) s.outbox.frames (next_frame s ∷ []) h.boxed (next_fine, tt);
-    wait = h.wait;
-    outside = h.outside;
-  }
+  injected_fine = grind (arith, h, next_fine, All-append (λ (g : Frame). FineNumber g.number) s.outbox.frames)
 
 -- what a port chooses to send is fine
 abbrev pub FineOldest : Option Frame → Type 0
@@ -176,11 +149,8 @@ FineChoice (Some y) = FineSymbol y
 pub oldest_fine : (fs : List Frame) → FineFrames fs → FineOldest (head? fs)
 oldest_fine fs z = grind arith
 
-frame_fine : (o : Option Frame) → FineOldest o → FineChoice (frame_of o)
-frame_fine o z = grind arith
-
 choice_fine : (s : Port) (o : Option Frame) → FineOldest o → FineChoice (choice s o)
-choice_fine s o z = grind (arith, nat_tests, frame_fine o z)
+choice_fine s o z = grind (arith, nat_tests)
 
 -- a number that is among fine ones is fine
 pub number_found : (k : ℕ) (xs : List ℕ) → among k xs ≡ true → AllByRecursion FineNumber xs → FineNumber k
@@ -265,28 +235,21 @@ module _ {B : Type 0} (M : BankCalls B) where
             }
 
     source_fine : (c : Chain B) (p : ℕ) → Fine c → FineOldest (source M c p)
-    source_fine c p h =
-        cond_both (is_end c.links p) _ _ FineOldest
-        (λ e. oldest_fine (port_of c p).outbox.frames (h.ports p).boxed)
-        (λ e. oldest_fine (port_of c (behind p)).buffers.waiting (h.ports (behind p)).wait)
+    source_fine c p h = grind (arith, nat_tests, oldest_fine, h.ports p, h.ports (behind p))
 
     drawn_fine : (c : Chain B) (p : ℕ) (y : Symbol) → Fine c → Fine (drawn M c p y)
-    drawn_fine c p (symbol.Frame f) h =
-        cond_both (is_end c.links p) (with_port c p (unsent (port_of c p)))
-        (with_port c (behind p) (sent_on (port_of c (behind p)))) Fine
-        (λ e. fine_port c p (unsent (port_of c p)) h (unsent_fine (port_of c p) (h.ports p)))
-        (λ e. fine_port c (behind p) (sent_on (port_of c (behind p))) h
-        (sent_on_fine (port_of c (behind p)) (h.ports (behind p))))
-    drawn_fine c p symbol.RRdy h = h
-    drawn_fine c p (symbol.Mark m) h = h
+    drawn_fine c p y h =
+        grind (
+          arith,
+          nat_tests,
+          fine_port c p (unsent (port_of c p)) h (unsent_fine (port_of c p) (h.ports p)),
+          fine_port c (behind p) (sent_on (port_of c (behind p))) h
+              (sent_on_fine (port_of c (behind p)) (h.ports (behind p))),
+        )
 
     freed_well : (links p : ℕ) (y : Symbol) → links ≤ 8 → p < 2 * links → FineSymbol y
         → AllByRecursion WellFormed (freed_events links p y)
-    freed_well links p (symbol.Frame f) few lt z =
-        cond_both (is_end links p) [] (event.Frame Freed (behind p) f ∷ []) (AllByRecursion WellFormed) (λ e. tt)
-        (λ e. (well_frame Freed (behind p) f (grind (arith, nat_tests, behind_below links p lt)) z, tt))
-    freed_well links p symbol.RRdy few lt z = tt
-    freed_well links p (symbol.Mark m) few lt z = tt
+    freed_well links p y few lt z = grind (arith, nat_tests, well_frame Freed (behind p), behind_below links p lt)
 
     abbrev with_sent : Chain B → ℕ → Option Symbol → Chain B
     with_sent c p o = with_port c p (after_send (port_of c p) o)

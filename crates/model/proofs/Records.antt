@@ -1,21 +1,18 @@
 -- The records of one port in a log that grows.
 use Rattle.std.proofs.Common.{◌≡◌, ℕ, ◌<◌, Bool, true, false, cond, eqb, [], ◌∷◌, ◌++◌, sym, refl, ap, ◌∙◌}
-use Rattle.std.proofs.Common.{subst, append_assoc, append-nil, rules, arith}
+use Rattle.std.proofs.Common.{subst, append_assoc, append-nil, arith}
 use mathlib.Core.Path.{fun_ext}
 use Rattle.std.proofs.lemmas.Bool.Decides.{nat_tests}
 use Rattle.std.specs.List.{AllByRecursion}
 use Rattle.symbol.specs.declared.Frame.{Frame}
-use Rattle.symbol.specs.declared.Mark.{Mark as MarkIs}
-use Rattle.symbol.specs.declared.Mark.TheVariants.{BbScS, BbScR}
 use Rattle.symbol.specs.declared.Note.{Note}
-use Rattle.symbol.specs.declared.Note.TheVariants.{Sound, Lost}
 use Rattle.symbol.specs.declared.Symbol.{Symbol}
 use Rattle.symbol.specs.declared.Symbol.TheVariants as symbol
 use Rattle.eventlog.specs.declared.event.Event.{Event}
 use Rattle.eventlog.specs.declared.event.Event.TheVariants as event
 use Rattle.eventlog.specs.declared.event.FrameKind.TheVariants.{Freed}
 use Rattle.eventlog.specs.declared.event.ItemKind.TheVariants.{Put, Got, Lost as Missed}
-use Rattle.port.specs.Port.{Port, frames_found, rrdys_found}
+use Rattle.port.specs.Port.{Port}
 use Rattle.model.specs.Run.{Log}
 use Rattle.model.specs.Figures.{is_at, records}
 use Rattle.model.proofs.Accounts.{Account, noted, noted_all, account, no_account, buffers_in_use, credit_used}
@@ -52,12 +49,9 @@ account_own p l es h = cc (account-append p l es, of_port_own p es h)
 pub account_off : (p : ℕ) (l es : Log) → At p false es → account p (l ++ es) ≡ account p l
 account_off p l es h = account-append p l es ∙ ap (noted_all (account p l)) (of_port_off p es h)
 
-good_at : (p : ℕ) (e : Event) (t u : Bool) → is_at p e ≡ t → At p t (cond u [] (e ∷ []))
-good_at p e t u h = grind arith
-
 -- what a port writes of an item it takes is its own
 pub receive_at : (p x : ℕ) (t : Bool) (s : Port) (v : Note) (y : Symbol) → eqb p x ≡ t → At p t (taken_events x s v y)
-receive_at p x t s v y h = grind (arith, nat_tests, good_at)
+receive_at p x t s v y h = grind (arith, nat_tests)
 
 pub account_skip : (p : ℕ) (l es : Log) (e : Event) → is_at p e ≡ false
     → account p (l ++ (e ∷ es)) ≡ account p (l ++ es)
@@ -77,28 +71,14 @@ pub record SameFrames (a a' : Account) : Type 0 where
   pub takes : a'.takes ≡ a.takes
 
 module _ (p x z : ℕ) (f : Frame) (l : Log) where
-  put_freed : (a : Account) (t u : Bool)
-      → SameFrames a
-      (noted_all a
-      (cond t (event.Item Put x (symbol.Frame f) ∷ []) [] ++ (cond u (event.Frame Freed z f ∷ []) [] ++ [])))
-  put_freed a t u = grind arith
-
   abbrev both : Log
   both = event.Item Put x (symbol.Frame f) ∷ event.Frame Freed z f ∷ []
 
   pub put_freed_frames : SameFrames (account p l) (account p (l ++ both))
-  put_freed_frames =
-      subst (SameFrames (account p l)) (sym (account-append p l both)) (put_freed (account p l) (eqb p x) (eqb p z))
-
-  freed_puts : (a : Account) (u : Bool) → (noted_all a (cond u (event.Frame Freed z f ∷ []) [] ++ [])).puts ≡ a.puts
-  freed_puts a u = grind arith
+  put_freed_frames = grind (arith, account-append p l both)
 
   pub put_freed_puts : eqb p x ≡ false → (account p (l ++ both)).puts ≡ (account p l).puts
-  put_freed_puts e =
-      ap (λ (a : Account). a.puts)
-      (account_skip p l (event.Frame Freed z f ∷ []) (event.Item Put x (symbol.Frame f)) e
-      ∙ account-append p l (event.Frame Freed z f ∷ []))
-      ∙ freed_puts (account p l) (eqb p z)
+  put_freed_puts e = grind (arith, nat_tests, account-append p l both)
 
 -- a frame that arrives finds a free buffer, and an R_RDY a credit in use, by the records before it; `all` has the
 -- buffers of each port
@@ -143,10 +123,6 @@ pub rooms_kept : (all all' : ℕ → ℕ) (l es : Log) → ((p : ℕ) → all' p
 rooms_kept all all' l es same h k =
     subst (λ (f : ℕ → ℕ). AllMeetRoom f [] (l ++ es)) (sym (fun_ext same)) (rooms_more all [] l es h k)
 
-good_rooms : (all : ℕ → ℕ) (before : Log) (x k : ℕ) (m : MarkIs) (t : Bool)
-    → AllMeetRoom all before (cond t [] (event.MadeGood x m k ∷ []))
-good_rooms all before x k s t = grind arith
-
 pub receive_rooms : (all : ℕ → ℕ) (l : Log) (x : ℕ) (s : Port) (v : Note) (y : Symbol) → MeetsRoom all l x y
     → AllMeetRoom all l (taken_events x s v y)
-receive_rooms all l x s v y m = grind (arith, good_rooms)
+receive_rooms all l x s v y m = grind (arith, nat_tests)

@@ -1,25 +1,26 @@
 -- Every run, from the cabling on.
-use Rattle.std.proofs.Common.{◌≡◌, ℕ, zero, suc, ◌+◌, ◌*◌, ◌/◌, ◌%◌, ◌^◌, ◌<◌, ◌≤◌, Bool, true, false, cond, ◌||◌}
-use Rattle.std.proofs.Common.{eqb, ltb, leb, ◌≢◌, ◌⊎◌, ⊎_elim, List, [], ◌∷◌, ◌++◌, length, get_or, set, replicate, Some, None}
+use Rattle.std.proofs.Common.{◌≡◌, ℕ, zero, suc, ◌+◌, ◌*◌, ◌/◌, ◌^◌, ◌<◌, ◌≤◌, Bool, true, false, cond}
+use Rattle.std.proofs.Common.{eqb, ltb, ◌≢◌, ◌⊎◌, ⊎_elim, List, [], ◌∷◌, ◌++◌, length, get_or, set, replicate, Some}
+use Rattle.std.proofs.Common.{None}
 use Rattle.std.proofs.Common.{Ok, Err, Option, Result, sym, refl, ap, ◌∙◌, subst, inl, inr, append-nil, le_refl, arith}
 use Rattle.std.proofs.Common.{length-set, pow_pos}
 use native.Mathlib.Nat.{zero-mod}
 use lib.ListN.{length-replicate}
 use Rattle.std.proofs.lemmas.Bool.Decides.{nat_tests}
-use Rattle.std.proofs.lemmas.Bool.{cond_both, false≢true, eqb-false, cases_eq, leb-true, leb-false, and_parts, or_parts, ltb-false}
+use Rattle.std.proofs.lemmas.Bool.{cond_both, cases_eq}
 use Rattle.ring.specs.Queue.{head?, tail, empty}
 use Rattle.symbol.specs.declared.Frame.{Frame}
 use Rattle.symbol.specs.declared.Item.{Item}
 use Rattle.eventlog.specs.declared.event.Event.TheVariants as event
 use Rattle.eventlog.specs.declared.event.FrameKind.TheVariants.{Freed}
 use Rattle.bank.specs.Bank.{BankCalls, LawfulBank, count}
-use Rattle.port.specs.Port.{Buffers, Port, Turn, no_act, among, handed_out, released, injected_at, logged_in}
+use Rattle.port.specs.Port.{Port, Turn, no_act, among, handed_out, released, injected_at, logged_in}
 use Rattle.port.specs.Port.{new_port}
 use Rattle.symbol.specs.declared.end.End.{End}
 use Rattle.model.specs.declared.Refusal.{Refusal}
 use Rattle.model.specs.declared.Refusal.TheVariants as refusal
 use Rattle.model.specs.Chain.{injected, call_bytes, last_tick, Chain, port_of, with_port, end_port, all_idle}
-use Rattle.model.specs.Chain.{cabled_links, cabled, stepped, from_oldest, collectable, collects_by, collects}
+use Rattle.model.specs.Chain.{cabled_links, cabled, stepped, from_oldest, collects_by, collects}
 use Rattle.model.specs.Chain.{released_at, logs_in, logins, step_refusal, inject_refusal, release_refusal}
 use Rattle.model.specs.Chain.{login_refusal, unless_refused, symbols, on}
 use Rattle.model.specs.Run.{new, login, start, inject, step, collect, release, drain, Log, Phase, is_cabled}
@@ -60,14 +61,7 @@ unless P (Some e) c t h f = h
 
 -- a stream of which nothing was sent
 new_stream : (n : ℕ) → InStep n (record { sent = 0; due = false }) 0 [] no_tally.losses
-new_stream n = record {
-  sent_is = sym (zero-mod (2 ^ n));
-  due_is = λ e. absurd (false≢true e);
-  marks = tt;
-  below = pow_pos n;
-  good = le_refl 0;
-  ended = record { each = tt; all_lost = refl; all_good = refl };
-}
+new_stream n = grind (arith, zero-mod (2 ^ n), pow_pos n)
 
 new_loop : (a b n : ℕ) → Loop (logged_in a b n) (logged_in b a n) [] [] no_account no_account
 new_loop a b n = record { figures = omega arith; frames = new_stream n; rrdys = new_stream n; order = refl }
@@ -184,8 +178,7 @@ module _ {B : Type 0} (M : BankCalls B) (law : (b : B) → LawfulBank M b) where
 
   -- a new cabling: a link for each two channels of an idle bank, or none
   no_items : (xs : List Item) → empty xs ≡ true → symbols xs ≡ []
-  no_items [] e = refl
-  no_items (i ∷ is) e = absurd (false≢true e)
+  no_items xs e = grind arith
 
   all_idle_at : (b : B) (k d : ℕ) → all_idle M b k ≡ true → d < k → symbols (M.known b d).items ≡ []
   all_idle_at b zero d e lt = absurd (omega arith)
@@ -197,10 +190,17 @@ module _ {B : Type 0} (M : BankCalls B) (law : (b : B) → LawfulBank M b) where
     pub few : k ≤ 8
     pub idle : (d : ℕ) → d < 2 * k → symbols (M.known b d).items ≡ []
 
+  cabled_idle : (b : B) → 0 < cabled_links M b
+      → (all_idle M b (count M b) ≡ true) × (2 * cabled_links M b ≤ count M b)
+  cabled_idle b some = grind (arith, nat_tests)
+
   pub cabling : (b : B) → Cabling b (cabled_links M b)
   cabling b = record {
     few = grind (arith, nat_tests);
-    idle = λ d z. grind (arith, nat_tests, all_idle_at b (count M b) d);
+    idle =
+        λ d z.
+        let h = cabled_idle b (omega arith) in
+        all_idle_at b (count M b) d h.0 (omega (arith, h.1));
   }
 
   cabled_fresh : (b : B) → Fresh (cabled M b)
@@ -274,8 +274,7 @@ module _ {B : Type 0} (M : BankCalls B) (law : (b : B) → LawfulBank M b) where
       (first_is (port_of c (end_port c e)).buffers.waiting k w))
 
   released_all : (s : Port) (k : ℕ) → (released s k).buffers.all ≡ s.buffers.all
-  released_all s k =
-      cond_both (among k s.buffers.out) _ _ (λ (b : Buffers). b.all ≡ s.buffers.all) (λ e. refl) (λ e. refl)
+  released_all s k = grind (arith, nat_tests)
 
   -- a release that is not refused is of a number handed out
   pub released_out : (c : Chain B) (e : End) (k room : ℕ) → release_refusal M c e k room ≡ None
@@ -383,8 +382,8 @@ module _ {B : Type 0} (M : BankCalls B) (law : (b : B) → LawfulBank M b) where
   pub run_ticks : {b : B} {ph : Phase} {c : Chain B} {l : Log} → Run M b ph c l → c.tick ≡ ticks l
   run_ticks new = refl
   run_ticks (login {c = c} k x y m n r) =
-      unless (λ t. t.state.tick ≡ c.tick) (login_refusal M c k x y m n) c (no_act (logs_in M c k x y n)) refl (λ e. refl)
-      ∙ run_ticks r
+      unless (λ t. t.state.tick ≡ c.tick) (login_refusal M c k x y m n) c (no_act (logs_in M c k x y n)) refl
+      (λ e. refl) ∙ run_ticks r
   run_ticks (start r) = run_ticks r
   run_ticks (step {c = c} {l = l} m room r) =
       unless_ticks (step_refusal M c room) c (stepped M c) l (run_ticks r)

@@ -1,22 +1,14 @@
 -- What a step adds to a log: one tick, and no more bytes than it asks for.
-use Rattle.std.proofs.Common.{◌≡◌, ℕ, zero, suc, ◌+◌, ◌*◌, ◌≤◌, eqb, [], ◌∷◌, ◌++◌, length}
-use Rattle.std.proofs.Common.{Some, None, Option, refl, suc-mul, arith}
+use Rattle.std.proofs.Common.{◌≡◌, ℕ, zero, suc, ◌+◌, ◌*◌, ◌≤◌, [], ◌∷◌, ◌++◌, length}
+use Rattle.std.proofs.Common.{refl, suc-mul, arith}
 use Rattle.std.proofs.lemmas.Bool.Decides.{nat_tests}
-use Rattle.symbol.specs.declared.Item.{Item}
-use Rattle.symbol.specs.declared.Note.{Note}
-use Rattle.symbol.specs.declared.Note.TheVariants.{Sound, Lost}
-use Rattle.symbol.specs.declared.Symbol.{Symbol}
-use Rattle.symbol.specs.declared.Symbol.TheVariants as symbol
 use Rattle.eventlog.specs.Format.{encode, encode_all}
 use Rattle.eventlog.specs.declared.event.Event.{Event}
 use Rattle.eventlog.specs.declared.event.Event.TheVariants as event
-use Rattle.eventlog.specs.declared.event.FrameKind.TheVariants.{Freed}
-use Rattle.eventlog.specs.declared.event.ItemKind.TheVariants.{Put, Got}
-use Rattle.channel.specs.Calls.{handed}
 use Rattle.bank.specs.Bank.{BankCalls}
-use Rattle.port.specs.Port.{Turn, receive_events, correction, after_send}
-use Rattle.model.specs.Chain.{Chain, facing, behind, port_of, with_port, with_bank, is_end, freed_events, each_port}
-use Rattle.model.specs.Chain.{takes_item, takes, sent, sends_symbol, sends, ticked, stepped, step_bytes}
+use Rattle.port.specs.Port.{Turn}
+use Rattle.model.specs.Chain.{Chain, each_port}
+use Rattle.model.specs.Chain.{takes, sends, ticked, stepped, step_bytes}
 use Rattle.model.specs.Run.{Log}
 use Rattle.model.specs.Figures.{total, tick_in, ticks}
 use Rattle.model.specs.Sizes.{CallsFit}
@@ -35,26 +27,12 @@ pub record Small (most : ℕ) (es : Log) : Type 0 where
   pub bytes : total size es ≤ most
   pub no_tick : ticks es ≡ 0
 
-taken_small : (p x : ℕ) (v : Note) (y : Symbol) → Small 10 (receive_events p v y x)
-taken_small p x v y = grind (arith, nat_tests)
-
-put_small : (links p : ℕ) (y : Symbol) → Small 15 (event.Item Put p y ∷ freed_events links p y)
-put_small links p y = grind (arith, nat_tests)
-
 module _ {B : Type 0} (M : BankCalls B) where
   pub takes_small : (c : Chain B) (p : ℕ) → Small 10 (takes M c p).events
-  takes_small c p = go (handed (M.known c.bank (facing p)))
-    where
-      go : (o : Option Item) → Small 10 (takes_item M (with_bank c (M.take c.bank (facing p))) p o).events
-      go None = omega arith
-      go (Some i) = taken_small p (correction (port_of c p) i.note i.symbol) i.note i.symbol
+  takes_small c p = grind (arith, nat_tests)
 
   pub sends_small : (c : Chain B) (p : ℕ) → Small 15 (sends M c p).events
-  sends_small c p = go (sent M c p)
-    where
-      go : (o : Option Symbol) → Small 15 (sends_symbol M (with_port c p (after_send (port_of c p) o)) p o).events
-      go None = omega arith
-      go (Some y) = put_small c.links p y
+  sends_small c p = grind (arith, nat_tests)
 
   each_small : (most : ℕ) (f : Chain B → ℕ → Turn (Chain B)) → ((c : Chain B) (p : ℕ) → Small most (f c p).events)
       → (c : Chain B) (k : ℕ) → Small (k * most) (each_port f k c).events

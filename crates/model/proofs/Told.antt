@@ -6,18 +6,16 @@ use Rattle.std.proofs.lemmas.List.Recursion.{is_sum_by}
 use Rattle.std.specs.List.{flat_map}
 use Rattle.symbol.specs.declared.Frame.{Frame}
 use Rattle.symbol.specs.declared.Symbol.{Symbol}
-use Rattle.symbol.specs.declared.Symbol.TheVariants as symbol
 use Rattle.eventlog.specs.declared.event.Event.{Event}
-use Rattle.eventlog.specs.declared.event.Event.TheVariants as event
 use Rattle.eventlog.specs.declared.event.FrameKind.TheVariants.{Freed, Injected, Collected}
 use Rattle.eventlog.specs.declared.event.ItemKind.TheVariants.{Put, Got, Lost as Missed}
 use Rattle.model.specs.Run.{Log}
-use Rattle.model.specs.Figures.{Stream, Frames, RRdys, Role, counted, mark, other, role, one_counted, how_many}
-use Rattle.model.specs.Figures.{frames_among, records, symbol_in, frame_in, good_of_role, good_in, total, puts}
+use Rattle.model.specs.Figures.{Stream, Frames, RRdys, how_many}
+use Rattle.model.specs.Figures.{frames_among, records, symbol_in, frame_in, good_in, total, puts}
 use Rattle.model.specs.Figures.{put_count, got_count, reported_lost, made_good, freed, lost_frames, injected}
 use Rattle.model.specs.Figures.{collected}
 use Rattle.model.specs.Stretches.{Passage, last_good, took, took_all, taken, taken_symbols}
-use Rattle.model.proofs.Accounts.{Tally, Account, one_put, one_got, one_missed, some_good, tally_after, frame_last}
+use Rattle.model.proofs.Accounts.{Tally, Account, tally_after, frame_last}
 use Rattle.model.proofs.Accounts.{by_item, by_frame, as_it_was, last, one_freed, noted, noted_all, no_account}
 use Rattle.model.proofs.Accounts.{account}
 
@@ -43,8 +41,7 @@ how_many-append k (x ∷ xs) ys = omega (arith, how_many-append k xs ys)
 how_many_joined : (k : Stream) (g : Event → List Symbol) (es : Log)
     → how_many k (flat_map g es) ≡ total (λ e. how_many k (g e)) es
 how_many_joined k g [] = refl
-how_many_joined k g (e ∷ es) = how_many-append k (g e) (flat_map g es)
-    ∙ ap (λ (z : ℕ). how_many k (g e) + z) (how_many_joined k g es)
+how_many_joined k g (e ∷ es) = grind (arith, how_many-append k (g e) (flat_map g es), how_many_joined k g es)
 
 pub length_joined : {X : Type 0} (g : Event → List X) (es : Log)
     → length (flat_map g es) ≡ total (λ e. length (g e)) es
@@ -63,8 +60,7 @@ frames_same ss y e = frames-append ss (y ∷ []) ∙ ap {B = List Frame} (λ z. 
 frames_joined : (g : Event → List Symbol) (es : Log)
     → frames_among (flat_map g es) ≡ flat_map (λ e. frames_among (g e)) es
 frames_joined g [] = refl
-frames_joined g (e ∷ es) = frames-append (g e) (flat_map g es)
-    ∙ ap {B = List Frame} (λ z. frames_among (g e) ++ z) (frames_joined g es)
+frames_joined g (e ∷ es) = grind (arith, frames-append (g e) (flat_map g es), frames_joined g es)
 
 -- a tally after one more record
 pub record Adds (t t' : Tally) (put got lost good : ℕ) : Type 0 where
@@ -73,25 +69,10 @@ pub record Adds (t t' : Tally) (put got lost good : ℕ) : Type 0 where
   pub losts : t'.losses.lost ≡ t.losses.lost + lost
   pub goods : t'.losses.good ≡ t.losses.good + good
 
-adds_nothing : (t : Tally) → Adds t t 0 0 0 0
-adds_nothing t = omega arith
-
-put_adds : (r : Role) (t : Tally) → Adds t (one_put r t) (one_counted r + 0) 0 0 0
-put_adds r t = grind arith
-
-got_adds : (r : Role) (t : Tally) → Adds t (one_got r t) 0 (one_counted r + 0) 0 0
-got_adds r t = grind arith
-
-lost_adds : (r : Role) (t : Tally) → Adds t (one_missed r t) 0 0 (one_counted r + 0) 0
-lost_adds r t = grind arith
-
-good_adds : (r : Role) (n : ℕ) (t : Tally) → Adds t (some_good r n t) 0 0 0 (good_of_role r n)
-good_adds r n t = grind arith
-
 tally_adds : (k : Stream) (t : Tally) (e : Event)
     → Adds t (tally_after k t e) (how_many k (symbol_in Put e)) (how_many k (symbol_in Got e))
     (how_many k (symbol_in Missed e)) (good_in k e)
-tally_adds k t e = grind (arith, put_adds, got_adds, lost_adds, good_adds)
+tally_adds k t e = grind arith
 
 freed_adds : (n : ℕ) (e : Event) → by_frame one_freed as_it_was as_it_was n e ≡ n + length (frame_in Freed e)
 freed_adds n e = grind arith
@@ -99,12 +80,9 @@ freed_adds n e = grind arith
 puts_last : (ss : List Symbol) (e : Event) → by_item last as_it_was as_it_was ss e ≡ ss ++ symbol_in Put e
 puts_last ss e = grind (arith, append-nil {A = Symbol})
 
-frame_is_last : (fs : List Frame) (s : Symbol) → frame_last fs s ≡ fs ++ frames_among (s ∷ [])
-frame_is_last fs s = grind (arith, append-nil {A = Frame})
-
 lost_last : (fs : List Frame) (e : Event)
     → by_item as_it_was as_it_was frame_last fs e ≡ fs ++ frames_among (symbol_in Missed e)
-lost_last fs e = grind (arith, append-nil {A = Frame}, frame_is_last)
+lost_last fs e = grind (arith, append-nil {A = Frame})
 
 injected_last : (fs : List Frame) (e : Event) → by_frame as_it_was last as_it_was fs e ≡ fs ++ frame_in Injected e
 injected_last fs e = grind (arith, append-nil {A = Frame})

@@ -1,17 +1,13 @@
 -- The frames of a way: none is gained or gone, and none passes another.
-use Rattle.std.proofs.Common.{◌≡◌, ℕ, zero, suc, ◌+◌, ◌-◌, ◌*◌, ◌<◌, ◌≤◌, Bool, cond, eqb, ◌≢◌, ◌⊎◌, List, [], ◌∷◌}
-use Rattle.std.proofs.Common.{◌++◌, sym, refl, ap, ◌∙◌, subst, inl, inr, arith}
+use Rattle.std.proofs.Common.{◌≡◌, ℕ, zero, suc, ◌+◌, ◌-◌, ◌*◌, ◌<◌, ◌≤◌, cond, eqb, ◌≢◌, ◌⊎◌, List, [], ◌∷◌}
+use Rattle.std.proofs.Common.{◌++◌, sym, refl, ap, ◌∙◌, subst, arith}
 use Rattle.std.proofs.lemmas.Bool.Decides.{nat_tests}
-use Rattle.std.proofs.lemmas.Bool.{eq-eqb, ne_eqb, cases_eq}
 use Rattle.symbol.specs.declared.Frame.{Frame}
 use Rattle.symbol.specs.declared.Symbol.{Symbol}
 use Rattle.symbol.specs.declared.Symbol.TheVariants as symbol
 use Rattle.eventlog.specs.declared.event.Event.{Event}
-use Rattle.eventlog.specs.declared.event.Event.TheVariants as event
-use Rattle.eventlog.specs.declared.event.ItemKind.TheVariants.{Put, Got, Lost as Missed}
 use Rattle.bank.specs.Bank.{BankCalls}
 use Rattle.symbol.specs.declared.end.End.{End}
-use Rattle.symbol.specs.declared.end.End.TheVariants.{West, East}
 use Rattle.model.specs.Chain.{Chain, behind, port_of, end_port, on, opposite}
 use Rattle.model.specs.Run.{Log}
 use Rattle.model.specs.Figures.{lost_frames, injected, collected, records, frames_among}
@@ -57,24 +53,23 @@ pub record Taken (taken : List Symbol) (got lost : List Frame) : Type 0 where
 
 module _ (taken : List Symbol) (got lost : List Frame) (h : Taken taken got lost) where
   no_frame : (y : Symbol) → frames_among (y ∷ []) ≡ [] → Taken (taken ++ (y ∷ [])) got lost
-  no_frame y e = record {
-    each = λ k. ap (times k) (frames_same taken y e) ∙ h.each k;
-    in_order = subst (InOrderOf got) (sym (frames_same taken y e)) h.in_order;
-  }
+  no_frame y e = grind (arith, h, frames_same taken y e)
 
   more_taken : (f : Frame) (k : ℕ)
       → times k (frames_among (taken ++ (symbol.Frame f ∷ []))) ≡ times k got + times k lost + times k (f ∷ [])
   more_taken f k =
-      ap (times k) (frames-append taken (symbol.Frame f ∷ []))
-      ∙ omega (arith, times-append k (frames_among taken) (f ∷ []), h.each k)
+      grind (arith, frames-append taken (symbol.Frame f ∷ []), times-append k (frames_among taken) (f ∷ []), h.each k)
 
   frame_got : (f : Frame) → Taken (taken ++ (symbol.Frame f ∷ [])) (got ++ (f ∷ [])) lost
-  frame_got f = record {
-    each = λ k. omega (arith, more_taken f k, times-append k got (f ∷ []));
-    in_order =
-        subst (InOrderOf (got ++ (f ∷ []))) (sym (frames-append taken (symbol.Frame f ∷ [])))
-        (in_order_both f h.in_order);
-  }
+  frame_got f =
+      grind (
+        arith,
+        h,
+        more_taken f,
+        times-append,
+        frames-append taken (symbol.Frame f ∷ []),
+        in_order_both f h.in_order,
+      )
 
   frame_lost : (f : Frame) → Taken (taken ++ (symbol.Frame f ∷ [])) got (lost ++ (f ∷ []))
   frame_lost f = record {
@@ -87,7 +82,13 @@ abbrev TakenBy : Account → Type 0
 TakenBy a = Taken a.taken a.got a.lost
 
 taken_kept : (a : Account) (e : Event) → TakenBy a → TakenBy (noted a e)
-taken_kept a e h = grind (arith, frame_got a.taken a.got a.lost h, frame_lost a.taken a.got a.lost h, no_frame a.taken a.got a.lost h)
+taken_kept a e h =
+    grind (
+      arith,
+      frame_got a.taken a.got a.lost h,
+      frame_lost a.taken a.got a.lost h,
+      no_frame a.taken a.got a.lost h,
+    )
 
 taken_all : (a : Account) (l : Log) → TakenBy a → TakenBy (noted_all a l)
 taken_all a [] h = h
@@ -147,14 +148,12 @@ module _ {B : Type 0} (M : BankCalls B) (c : Chain B) where
         ≡ times k (account (taker c e i) l).got + times k (lost_frames (taker c e i) l) + times k
         (frames_among (on M c (hop c e i)))
     put_times i k lt =
-        omega (
+        grind (
           arith,
-          ap (times k) (put_is i lt),
-          times-append k (frames_among (account (taker c e i) l).taken)
-              (frames_among (on M c (hop c e i))),
+          put_is i lt,
+          times-append k (frames_among (account (taker c e i) l).taken) (frames_among (on M c (hop c e i))),
           (taken_of (taker c e i) l).each k,
-          ap (times k)
-              (told (taker c e i) l).lost_are,
+          told (taker c e i) l,
         )
 
     -- the first direction is fed by the outbox, each other by the port before it
