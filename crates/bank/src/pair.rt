@@ -18,7 +18,7 @@ pub struct Pair<P, Q> {
 }
 
 // Where a number of a pair leads.
-// Each call matches on it: one helper would take a closure for each bank, by `&` and again by `&mut`.
+// Each call matches on it: one function would take a closure for each bank, by `&` and again by `&mut`.
 enum Route {
     First(u8),
     Second(u8),

@@ -90,6 +90,7 @@ fn collect_all<B: Bank, S: Moving>(
     end: End,
     sheet: &mut Sheet<'_>,
 ) -> Result<(), Refusal> {
+    // no more wait, and a `while` would have to be proved to end
     for _ in 0..32 {
         let Ok(token) = chain.collect(end, sheet) else {
             break;
@@ -126,10 +127,7 @@ fn drain<B: Bank>(chain: &mut Chain<B, Draining>, sheet: &mut Sheet<'_>) -> Resu
     Ok(())
 }
 
-fn print_port(rt: &HostRuntime, port: usize, figures: Option<Figures>) -> anyhow::Result<()> {
-    let Some(f) = figures else {
-        return Ok(());
-    };
+fn print_port(rt: &HostRuntime, port: usize, f: Figures) -> anyhow::Result<()> {
     println!(rt;
         "port {port}: {} of {} credits in use, {} held, {} owed",
         f.in_use, f.limit, f.held, f.owed
@@ -168,8 +166,10 @@ fn main(rt: HostRuntime) -> anyhow::Result<()> {
     told(&rt, "run", ran)?;
     told(&rt, "drain", drained)?;
     write_listing::<_, anyhow::Error>(rt.alloc(), sheet.written(), &mut rt.stdout())?;
-    for (port, f) in figures.iter().enumerate() {
-        print_port(&rt, port, *f)?;
+    for (port, figures) in figures.iter().enumerate() {
+        if let Some(f) = figures {
+            print_port(&rt, port, *f)?;
+        }
     }
     Ok(())
 }

@@ -14,8 +14,8 @@ use Rattle.model.specs.Chain.{port_of, release_refusal, releases, step_refusal, 
 use Rattle.chain.specs.declared.login.Login.{Login}
 use Rattle.chain.specs.declared.token.Token.{Token}
 
--- A call by its turn and its answer, on a sheet: the chain is the turn's, and its records stand behind the bytes used. A
--- refused call has no record.
+-- A call by its turn and its answer, on a sheet: the chain is the turn's, and its records stand behind the bytes used.
+-- A refused call has no record.
 pub record Called {C R : Type 0} (t : Turn C) (a : R) (before : Sheet) (c : C) (after : Sheet) (r : R) : Type 0 where
   pub state : c ≡ t.state
   pub log : Wrote before t.events after

@@ -21,6 +21,8 @@ pub struct Ports {
     table: [Port; PORTS],
 }
 
+// A method for each call, and no way to a port itself: what is written through a `&mut` into a table is not known to a
+// proof.
 #[tactic(auto, using(crate::proofs::Tables::by_port))]
 impl Ports {
     pub(crate) fn new() -> Self
@@ -35,7 +37,7 @@ impl Ports {
         ensures { ports_of self.new ≡
             slice_set (ports_of self.old) p.number (logged_in (some_buffers own) (some_buffers other) (some_n n)) }
     {
-        self.table[p.number as usize] = Port::new(own, other, n);
+        self.table[usize::from(p.number)] = Port::new(own, other, n);
     }
 
     pub(crate) fn receive(&mut self, p: PortNumber, item: Item) -> u8
@@ -44,7 +46,7 @@ impl Ports {
         ensures answer { result ≡
             correction (port_at (ports_of self.old) p.number) item.note item.symbol }
     {
-        self.table[p.number as usize].receive(item)
+        self.table[usize::from(p.number)].receive(item)
     }
 
     pub(crate) fn send(&mut self, p: PortNumber, waiting: Option<Frame>) -> Option<Symbol>
@@ -53,39 +55,39 @@ impl Ports {
             (choice (port_at (ports_of self.old) p.number) waiting)) }
         ensures answer { result ≡ choice (port_at (ports_of self.old) p.number) waiting }
     {
-        self.table[p.number as usize].send(waiting)
+        self.table[usize::from(p.number)].send(waiting)
     }
 
     pub(crate) fn oldest_held(&self, p: PortNumber) -> Option<Frame>
         ensures { result ≡ head? (port_at (ports_of self.now) p.number).buffers.waiting }
     {
-        self.table[p.number as usize].oldest_held()
+        self.table[usize::from(p.number)].oldest_held()
     }
 
     pub(crate) fn free_oldest(&mut self, p: PortNumber)
         ensures { ports_of self.new ≡
             slice_set (ports_of self.old) p.number (sent_on (port_at (ports_of self.old) p.number)) }
     {
-        self.table[p.number as usize].free_oldest();
+        self.table[usize::from(p.number)].free_oldest();
     }
 
     pub(crate) fn oldest_injected(&self, p: PortNumber) -> Option<Frame>
         ensures { result ≡ head? (port_at (ports_of self.now) p.number).outbox.frames }
     {
-        self.table[p.number as usize].oldest_injected()
+        self.table[usize::from(p.number)].oldest_injected()
     }
 
     pub(crate) fn drop_oldest(&mut self, p: PortNumber)
         ensures { ports_of self.new ≡
             slice_set (ports_of self.old) p.number (unsent (port_at (ports_of self.old) p.number)) }
     {
-        self.table[p.number as usize].drop_oldest();
+        self.table[usize::from(p.number)].drop_oldest();
     }
 
     pub(crate) fn is_outbox_full(&self, p: PortNumber) -> bool
         ensures { result ≡ box_full (port_at (ports_of self.now) p.number).outbox }
     {
-        self.table[p.number as usize].is_outbox_full()
+        self.table[usize::from(p.number)].is_outbox_full()
     }
 
     pub(crate) fn inject(&mut self, p: PortNumber) -> Option<Frame>
@@ -93,7 +95,7 @@ impl Ports {
             slice_set (ports_of self.old) p.number (injects_at (port_at (ports_of self.old) p.number)) }
         ensures answer { result ≡ injected_frame (port_at (ports_of self.old) p.number) }
     {
-        self.table[p.number as usize].inject()
+        self.table[usize::from(p.number)].inject()
     }
 
     pub(crate) fn hand_out(&mut self, p: PortNumber) -> Option<Frame>
@@ -101,25 +103,25 @@ impl Ports {
             slice_set (ports_of self.old) p.number (handed_out (port_at (ports_of self.old) p.number)) }
         ensures answer { result ≡ head? (port_at (ports_of self.old) p.number).buffers.waiting }
     {
-        self.table[p.number as usize].hand_out()
+        self.table[usize::from(p.number)].hand_out()
     }
 
     pub(crate) fn is_out(&self, p: PortNumber, number: u32) -> bool
         ensures { result ≡ among number (port_at (ports_of self.now) p.number).buffers.out }
     {
-        self.table[p.number as usize].is_out(number)
+        self.table[usize::from(p.number)].is_out(number)
     }
 
     pub(crate) fn release(&mut self, p: PortNumber, number: u32)
         ensures { ports_of self.new ≡
             slice_set (ports_of self.old) p.number (released (port_at (ports_of self.old) p.number) number) }
     {
-        self.table[p.number as usize].release(number);
+        self.table[usize::from(p.number)].release(number);
     }
 
     pub(crate) fn figures(&self, p: PortNumber) -> Figures
         ensures { result ≡ figures_of (port_at (ports_of self.now) p.number) }
     {
-        self.table[p.number as usize].figures()
+        self.table[usize::from(p.number)].figures()
     }
 }

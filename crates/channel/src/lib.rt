@@ -24,7 +24,7 @@ pub trait Channel {
 
     ghost calls: { Calls Model };
 
-    // The letter above.
+    // The letter as a call, whose contract tells its number where a constant has none.
     fn kind_letter() -> u8
         ensures { result ≡ LETTER }
     {

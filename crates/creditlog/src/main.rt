@@ -35,9 +35,9 @@ fn parse_args(rt: &HostRuntime) -> anyhow::Result<Request> {
     Ok(request)
 }
 
-fn read_bytes(rt: &HostRuntime, file: &Option<String>) -> anyhow::Result<Vec<u8>> {
+fn read_bytes(rt: &HostRuntime, file: Option<&str>) -> anyhow::Result<Vec<u8>> {
     match file {
-        Some(path) => Ok(fs::read(rt, path.as_str())?),
+        Some(path) => Ok(fs::read(rt, path)?),
         None => {
             let mut log = Vec::new(rt.alloc());
             rt.stdin().read_to_end(&mut log)?;
@@ -55,7 +55,7 @@ fn print_summary(rt: &HostRuntime, log: &[u8]) -> anyhow::Result<()> {
 
 fn run(rt: &HostRuntime) -> anyhow::Result<()> {
     let request = parse_args(rt)?;
-    let log = read_bytes(rt, &request.file)?;
+    let log = read_bytes(rt, request.file.as_deref())?;
     if request.summary {
         print_summary(rt, log.as_slice())
     } else {

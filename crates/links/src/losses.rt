@@ -7,6 +7,7 @@ const DIRECTIONS: usize = 6;
 
 #[derive(Clone, Copy)]
 pub struct Losses {
+    // as many as the longest chain of script has, without a heap
     scripts: [LossScript; DIRECTIONS],
     ghost long: { length scripts ≡ 6 },
 }

@@ -1,18 +1,26 @@
 // Records written to sheets with room and without.
 
+ghost use Rattle.eventlog.specs.Sheet.{Sheet as Written, logged};
+ghost use Rattle.std.specs.Prelude.{◌≡◌, [], ◌∷◌};
+
 use eventlog::event::{Event, ItemKind};
 use eventlog::sheet::Sheet;
 use eventlog::worked::fourth_tick;
 use std::test::*;
 use symbol::{Frame, Symbol};
 
-fn write_all(bytes: &mut [u8], used: usize, events: &[Event]) -> usize {
+// A sheet over some bytes leaves in them what was written.
+fn write_all(bytes: &mut [u8], used: usize, events: &[Event]) -> usize
+    ensures { ◌≡◌ {A = Written} (bytes.new, result) (logged (bytes.old, used) events.now) }
+{
     let mut sheet = Sheet::new(bytes, used);
     sheet.write_all(events);
     sheet.used()
 }
 
-fn write(bytes: &mut [u8], used: usize, event: Event) -> usize {
+fn write(bytes: &mut [u8], used: usize, event: Event) -> usize
+    ensures { ◌≡◌ {A = Written} (bytes.new, result) (logged (bytes.old, used) (event ∷ [])) }
+{
     let mut sheet = Sheet::new(bytes, used);
     sheet.write(event);
     sheet.used()

@@ -5,7 +5,7 @@ ghost use Rattle.std.specs.Prelude.{◌≡◌};
 use symbol::{Mark, SymbolKind};
 
 // A field for each kind, matched once to read it and once to write it: an array would number the kinds.
-#[derive(Clone, Copy)]
+#[derive(Clone, Copy, Default)]
 pub struct PutCounts {
     frames: u32,
     rrdys: u32,
@@ -17,12 +17,7 @@ impl PutCounts {
     pub fn new() -> Self
         ensures { result ≡ nothing_counted }
     {
-        PutCounts {
-            frames: 0,
-            rrdys: 0,
-            bbscs: 0,
-            bbscr: 0,
-        }
+        PutCounts::default()
     }
 
     // The number of the next put of the kind.

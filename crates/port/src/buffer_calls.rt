@@ -45,7 +45,7 @@ impl Buffers {
         ensures state { let b = buffers_of self.old in buffers_of self.new ≡ owing b (min count (free b)) }
         ensures answer { result ≡ min count (free (buffers_of self.old)) }
     {
-        let more = count.min(self.free() as u16) as u8;
+        let more = count.min(u16::from(self.free())) as u8;
         self.owed += more;
         more
     }

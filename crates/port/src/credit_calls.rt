@@ -25,7 +25,7 @@ impl Credit {
             given_back (credit_of self.old) (min count self.old.used) }
         ensures answer { result ≡ min count self.old.used }
     {
-        let back = count.min(self.used as u16) as u8;
+        let back = count.min(u16::from(self.used)) as u8;
         self.used -= back;
         back
     }

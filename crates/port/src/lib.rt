@@ -16,7 +16,8 @@ pub mod taking;
 use ring::Ring;
 use symbol::Frame;
 
-// Contracts read these by specs/View.antt: a ring's view cannot give its places back, as a Copy type's Model must.
+// Contracts read these by specs/View.antt: a ring's view cannot give its places back, as a Copy type's Model must, and
+// the others are read beside those that hold rings.
 
 // The credit towards the other end of the link: what is in use never passes the limit.
 #[derive(Clone, Copy)]

@@ -50,7 +50,7 @@ impl Inflow {
         ensures { inflow_of self.new ≡ corrected (inflow_of self.old) good }
     {
         self.got = 0;
-        self.good = self.good.saturating_add(good as u32);
+        self.good = self.good.saturating_add(u32::from(good));
     }
 }
 

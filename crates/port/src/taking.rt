@@ -27,7 +27,8 @@ impl Port {
     }
 
     // A sound BB_SCs: R_RDYs are owed for the frames that it finds lost, as far as there are free buffers.
-    // One call for both marks would take a closure that changes a field, and its proof does not learn how.
+    // One call for both marks would take a closure that changes a field, and its proof does not learn how, or a trait
+    // of one method, which is longer.
     fn frames_marked(&mut self) -> u8
         ensures state { view self.new ≡ frames_corrected (view self.old) }
         ensures answer { result ≡ frames_found (view self.old) }

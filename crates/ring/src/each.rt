@@ -43,7 +43,7 @@ impl<T: Copy, const N: usize> Ring<T, N> {
         requires { F.IsAlwaysCallable keep }
         ensures { (p : T → Bool) → Computes F.Fn keep p → contents self.new ≡ filter p (contents self.old) }
     {
-        // Each value in turn comes out, and goes in again as the last if it is kept.
+        // Each value in turn comes out, and goes in again as the last if it is kept: no second array, and no heap.
         for _turn in 0..self.len {
             // Two tests: where a test of `if let .. && ..` fails, a proof does not learn which.
             if let Some(oldest) = self.pop() {

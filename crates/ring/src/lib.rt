@@ -21,7 +21,7 @@ pub struct Ring<T, const N: usize> {
     ghost len_in: { len ≤ N },
 }
 
-// By hand, since a derive refuses a struct with ghost fields.
+// By hand, since a derive refuses a struct with ghost fields over a type parameter.
 impl<T: Copy, const N: usize> Clone for Ring<T, N> {
     ghost is_clone = { λ ring copy. copy ≡ ring };
 

@@ -24,6 +24,7 @@ pub(crate) enum Stage {
 pub struct Progress {
     stage: Stage,
     pub(crate) directions: u8,
+    // as many as a chain has at most, without a heap
     loses: [u8; DIRECTIONS],
 }
 
@@ -35,10 +36,12 @@ impl Stage {
         match (self, command) {
             (Stage::Bare, Command::Chain(_)) => Some(Stage::Cabled),
             (Stage::Cabled, Command::Login { .. } | Command::Lose { .. }) => Some(Stage::Cabled),
-            (Stage::Cabled | Stage::Running, Command::Inject { .. }) => Some(Stage::Running),
             (
                 Stage::Cabled | Stage::Running,
-                Command::Collect { .. } | Command::Step { .. } | Command::Page,
+                Command::Inject { .. }
+                | Command::Collect { .. }
+                | Command::Step { .. }
+                | Command::Page,
             ) => Some(Stage::Running),
             (Stage::Cabled | Stage::Running, Command::Drain) => Some(Stage::Draining),
             (Stage::Draining, Command::Collect { .. } | Command::Step { .. } | Command::Page) =>

@@ -62,7 +62,7 @@ impl Symbol {
 }
 
 impl SymbolKind {
-    // By name and not by a From, which would not say which number of a kind is meant.
+    // A byte, as records and pages have it: a From into a char would be cast at each use.
     pub fn letter(self) -> u8
         ensures { result ≡ letter self }
     {
@@ -101,8 +101,8 @@ impl Item {
         ensures { result ≡ noted_lost self }
     {
         Item {
-            symbol: self.symbol,
             note: Note::Lost,
+            ..self
         }
     }
 }

@@ -39,10 +39,10 @@ impl<B: Bank> Inner<B> {
         ensures value { result ≡ check_login B.Bank.calls (chain_of B.Bank.model self.now) login }
         ensures fits { IfOk result (λ _. LoginFits self.now.links login) }
     {
-        if login.link >= self.links as u32 {
+        if login.link >= u32::from(self.links) {
             return Err(Refusal::NoLinks);
         }
-        if login.west < 1 || login.west > 32 || login.east < 1 || login.east > 32 {
+        if !(1..=32).contains(&login.west) || !(1..=32).contains(&login.east) {
             return Err(Refusal::BadBuffers);
         }
         if login.west_n > 15 || login.east_n > 15 {

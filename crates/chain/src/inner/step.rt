@@ -141,7 +141,7 @@ impl<B: Bank> Inner<B> {
         if self.tick == 16_777_215 {
             return Err(Refusal::LastTick);
         }
-        if room < 6 + 50 * self.links as usize {
+        if room < 6 + 50 * usize::from(self.links) {
             return Err(Refusal::SheetFull);
         }
         Ok(())
