@@ -7,6 +7,8 @@ ghost use Rattle.links.specs.Links.{link_state, one_link, one_link_state};
 ghost use Rattle.links.specs.Links.{lossy_one_link, lossy_three_links};
 ghost use Rattle.links.specs.Links.{three_links, three_links_state, three_state};
 ghost use Rattle.links.specs.Losses.{losses_state, script_at};
+ghost use Rattle.loss.specs.Loss.{started};
+ghost use Rattle.loss.specs.States.{lossy_state};
 ghost use Rattle.std.specs.Prelude.{◌≡◌, [], ◌∷◌};
 
 pub mod losses;
@@ -35,6 +37,14 @@ pub type ThreeLinks = Pair<Link<LossyWire>, Pair<Link<LossyRing>, Link<LossyWire
 // The delay of the rings in the middle of three links.
 const DELAY: u16 = 5;
 
+// A channel that loses what the script of a direction names.
+fn lossy<C: Channel>(below: C, losses: &Losses, direction: u8) -> ScriptedLoss<C>
+    ensures { lossy_state C.Channel.model result
+        ≡ started (C.Channel.model below) (script_at (losses_state losses.now) direction) }
+{
+    ScriptedLoss::new(below, losses.script(direction))
+}
+
 fn link<C: Channel>(east: C, west: C) -> Link<C>
     ensures { link_state C.Channel.model result ≡ both (C.Channel.model east) (C.Channel.model west) }
 {
@@ -55,10 +65,7 @@ pub fn one_link(losses: &Losses) -> OneLink
     ensures letters { one_link.letters (one_link_state result) ≡ 119 ∷ 119 ∷ [] }
     ensures idle { AllIdle one_link (one_link_state result) }
 {
-    let wire = |direction: u8| ScriptedLoss::new(Wire::new(), losses.script(direction));
-    let east = wire(0);
-    let west = wire(1);
-    link(east, west)
+    link(lossy(Wire::new(), losses, 0), lossy(Wire::new(), losses, 1))
 }
 
 // A link of wires, one of delay rings, and one of wires.
@@ -67,8 +74,8 @@ pub fn three_links(losses: &Losses) -> ThreeLinks
     ensures letters { three_links.letters (three_links_state result) ≡ 119 ∷ 119 ∷ 100 ∷ 100 ∷ 119 ∷ 119 ∷ [] }
     ensures idle { AllIdle three_links (three_links_state result) }
 {
-    let wire = |direction: u8| ScriptedLoss::new(Wire::new(), losses.script(direction));
-    let ring = |direction: u8| ScriptedLoss::new(DelayRing::new(DELAY), losses.script(direction));
+    let wire = |direction| lossy(Wire::new(), losses, direction);
+    let ring = |direction| lossy(DelayRing::new(DELAY), losses, direction);
     three(
         link(wire(0), wire(1)),
         link(ring(2), ring(3)),
