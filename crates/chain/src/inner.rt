@@ -4,6 +4,7 @@ ghost use Rattle.std.specs.Prelude.{◌≤◌};
 use super::ports::Ports;
 
 pub mod ends;
+mod room;
 pub mod step;
 
 // A chain of no links has a bank all the same.

@@ -7,6 +7,7 @@ ghost use Rattle.model.specs.Chain.{port_at_end, release_refusal};
 ghost use Rattle.port.specs.Port.{box_full};
 
 use super::Inner;
+use super::room::check_room;
 use crate::login::Login;
 use crate::numbers::PortNumber;
 use crate::token::Token;
@@ -16,6 +17,9 @@ use eventlog::sheet::Sheet;
 use model::Refusal;
 use symbol::Frame;
 use symbol::end::End;
+
+// The bytes that inject, collect and release ask for.
+const CALL: usize = 7;
 
 impl<B: Bank> Inner<B> {
     pub(crate) fn last_port(&self) -> PortNumber
@@ -86,10 +90,7 @@ impl<B: Bank> Inner<B> {
         if self.ports.is_outbox_full(self.end_port(end)) {
             return Err(Refusal::OutboxFull);
         }
-        if room < 7 {
-            return Err(Refusal::SheetFull);
-        }
-        Ok(())
+        check_room(room, CALL)
     }
 
     // The next frame joins the outbox of an end.
@@ -118,9 +119,7 @@ impl<B: Bank> Inner<B> {
             .ports
             .oldest_held(self.end_port(end))
             .ok_or(Refusal::NoFrame)?;
-        if room < 7 {
-            return Err(Refusal::SheetFull);
-        }
+        check_room(room, CALL)?;
         Ok(frame)
     }
 
@@ -145,10 +144,7 @@ impl<B: Bank> Inner<B> {
         if !self.ports.is_out(self.end_port(end), number) {
             return Err(Refusal::NotHandedOut);
         }
-        if room < 7 {
-            return Err(Refusal::SheetFull);
-        }
-        Ok(())
+        check_room(room, CALL)
     }
 
     // Spends a token: its buffer is free again. A refused release hands it back.

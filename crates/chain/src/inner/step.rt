@@ -8,6 +8,7 @@ ghost use Rattle.model.specs.Chain.{answer, drawn, each_port, freed_events, is_e
 ghost use Rattle.model.specs.Chain.{step_refusal, stepped, takes, ticked};
 
 use super::Inner;
+use super::room::check_room;
 use crate::numbers::PortNumber;
 use crate::write::write_taken;
 use bank::Bank;
@@ -141,10 +142,7 @@ impl<B: Bank> Inner<B> {
         if self.tick == 16_777_215 {
             return Err(Refusal::LastTick);
         }
-        if room < 6 + 50 * usize::from(self.links) {
-            return Err(Refusal::SheetFull);
-        }
-        Ok(())
+        check_room(room, 6 + 50 * usize::from(self.links))
     }
 
     pub(crate) fn step(&mut self, sheet: &mut Sheet<'_>) -> Result<(), Refusal>
