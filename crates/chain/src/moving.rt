@@ -78,7 +78,7 @@ impl<B: Bank, S: Moving> Chain<B, S> {
         ensures { result ≡ figures_at (chain_of B.Bank.model self.now.inner) port }
     {
         if port < 2 * self.inner.links {
-            Some(self.inner.ports.figures(PortNumber { number: port }))
+            Some(self.inner.ports.at(PortNumber { number: port }).figures())
         } else {
             None
         }

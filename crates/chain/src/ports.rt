@@ -2,15 +2,13 @@
 ghost use Rattle.std.specs.Prelude.{◌≡◌, replicate, slice_set};
 ghost use Rattle.chain.specs.View.{ports_of};
 ghost use Rattle.model.specs.Chain.{port_at};
-ghost use Rattle.port.specs.Figures.{figures_of};
-ghost use Rattle.port.specs.Port.{after_send, among, box_full, choice, correction, handed_out, injected_frame};
-ghost use Rattle.port.specs.Port.{injects_at, logged_in, new_port, received, released, sent_on, some_buffers, some_n};
-ghost use Rattle.port.specs.Port.{unsent};
+ghost use Rattle.port.specs.Port.{after_send, choice, correction, handed_out, injected_frame, injects_at, logged_in};
+ghost use Rattle.port.specs.Port.{new_port, received, released, sent_on, some_buffers, some_n, unsent};
+ghost use Rattle.port.specs.View.{view};
 ghost use Rattle.ring.specs.Queue.{head?};
 
 use crate::numbers::PortNumber;
 use port::Port;
-use port::figures::Figures;
 use symbol::{Frame, Item, Symbol};
 
 // A chain has at most eight links, and the bench uses no heap.
@@ -21,8 +19,7 @@ pub struct Ports {
     table: [Port; PORTS],
 }
 
-// A method for each call, and no way to a port itself: what is written through a `&mut` into a table is not known to a
-// proof.
+// A method for each call that changes a port: what is written through a `&mut` into a table is not known to a proof.
 #[tactic(auto, using(crate::proofs::Tables::by_port))]
 impl Ports {
     pub(crate) fn new() -> Self
@@ -31,6 +28,13 @@ impl Ports {
         Ports {
             table: [Port::new(1, 1, 0); PORTS],
         }
+    }
+
+    // A port, to be asked.
+    pub(crate) fn at(&self, p: PortNumber) -> &Port
+        ensures { view result.now ≡ port_at (ports_of self.now) p.number }
+    {
+        &self.table[usize::from(p.number)]
     }
 
     pub(crate) fn log_in(&mut self, p: PortNumber, own: u8, other: u8, n: u8)
@@ -58,12 +62,6 @@ impl Ports {
         self.table[usize::from(p.number)].send(waiting)
     }
 
-    pub(crate) fn oldest_held(&self, p: PortNumber) -> Option<Frame>
-        ensures { result ≡ head? (port_at (ports_of self.now) p.number).buffers.waiting }
-    {
-        self.table[usize::from(p.number)].oldest_held()
-    }
-
     pub(crate) fn free_oldest(&mut self, p: PortNumber)
         ensures { ports_of self.new ≡
             slice_set (ports_of self.old) p.number (sent_on (port_at (ports_of self.old) p.number)) }
@@ -71,23 +69,11 @@ impl Ports {
         self.table[usize::from(p.number)].free_oldest();
     }
 
-    pub(crate) fn oldest_injected(&self, p: PortNumber) -> Option<Frame>
-        ensures { result ≡ head? (port_at (ports_of self.now) p.number).outbox.frames }
-    {
-        self.table[usize::from(p.number)].oldest_injected()
-    }
-
     pub(crate) fn drop_oldest(&mut self, p: PortNumber)
         ensures { ports_of self.new ≡
             slice_set (ports_of self.old) p.number (unsent (port_at (ports_of self.old) p.number)) }
     {
         self.table[usize::from(p.number)].drop_oldest();
-    }
-
-    pub(crate) fn is_outbox_full(&self, p: PortNumber) -> bool
-        ensures { result ≡ box_full (port_at (ports_of self.now) p.number).outbox }
-    {
-        self.table[usize::from(p.number)].is_outbox_full()
     }
 
     pub(crate) fn inject(&mut self, p: PortNumber) -> Option<Frame>
@@ -106,22 +92,10 @@ impl Ports {
         self.table[usize::from(p.number)].hand_out()
     }
 
-    pub(crate) fn is_out(&self, p: PortNumber, number: u32) -> bool
-        ensures { result ≡ among number (port_at (ports_of self.now) p.number).buffers.out }
-    {
-        self.table[usize::from(p.number)].is_out(number)
-    }
-
     pub(crate) fn release(&mut self, p: PortNumber, number: u32)
         ensures { ports_of self.new ≡
             slice_set (ports_of self.old) p.number (released (port_at (ports_of self.old) p.number) number) }
     {
         self.table[usize::from(p.number)].release(number);
-    }
-
-    pub(crate) fn figures(&self, p: PortNumber) -> Figures
-        ensures { result ≡ figures_of (port_at (ports_of self.now) p.number) }
-    {
-        self.table[usize::from(p.number)].figures()
     }
 }

@@ -87,7 +87,7 @@ impl<B: Bank> Inner<B> {
         if self.links == 0 {
             return Err(Refusal::NoLinks);
         }
-        if self.ports.is_outbox_full(self.end_port(end)) {
+        if self.ports.at(self.end_port(end)).is_outbox_full() {
             return Err(Refusal::OutboxFull);
         }
         check_room(room, CALL)
@@ -117,7 +117,8 @@ impl<B: Bank> Inner<B> {
         }
         let frame = self
             .ports
-            .oldest_held(self.end_port(end))
+            .at(self.end_port(end))
+            .oldest_held()
             .ok_or(Refusal::NoFrame)?;
         check_room(room, CALL)?;
         Ok(frame)
@@ -141,7 +142,7 @@ impl<B: Bank> Inner<B> {
             answer (release_refusal B.Bank.calls (chain_of B.Bank.model self.now) end number room) tt }
         ensures fits { IfOk result (λ _. call_bytes ≤ room) }
     {
-        if !self.ports.is_out(self.end_port(end), number) {
+        if !self.ports.at(self.end_port(end)).is_out(number) {
             return Err(Refusal::NotHandedOut);
         }
         check_room(room, CALL)

@@ -43,9 +43,9 @@ impl<B: Bank> Inner<B> {
         ensures { result ≡ source B.Bank.calls (chain_of B.Bank.model self.now) p.number }
     {
         if self.is_end(p) {
-            self.ports.oldest_injected(p)
+            self.ports.at(p).oldest_injected()
         } else {
-            self.ports.oldest_held(p.behind())
+            self.ports.at(p.behind()).oldest_held()
         }
     }
 
