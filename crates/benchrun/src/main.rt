@@ -19,6 +19,8 @@ use symbol::end::End;
 
 const SHEET: usize = 8192;
 
+// Chain and sheet go side by side, and not as a struct, since start and drain change the chain's type.
+
 // The loss of one symbol of a kind, by its number.
 fn loss_of(kind: SymbolKind, first: u32) -> LossEntry {
     let count = 1;

@@ -14,6 +14,7 @@ use symbol::{Frame, Item, Symbol};
 // A chain has at most eight links, and the bench uses no heap.
 const PORTS: usize = 16;
 
+// Contracts read it by specs/View.antt, as they read the ports in it.
 #[derive(Drop)]
 pub struct Ports {
     table: [Port; PORTS],

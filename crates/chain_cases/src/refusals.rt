@@ -16,7 +16,7 @@ use model::Refusal;
 use symbol::end::End;
 use symbol::{Item, Note, Symbol};
 
-// The number of a call's refusal, none where it was accepted.
+// The number of a call's refusal, as it stands outside; none where it was accepted.
 fn refused<T: Drop>(answer: Result<T, Refusal>) -> Option<u8> {
     answer.err().map(u8::from)
 }
@@ -69,6 +69,7 @@ fn fill_outbox<B: Bank>(
     chain: &mut Chain<B, Running>,
     bytes: &mut [u8],
 ) -> (u32, Option<u8>, Option<u8>) {
+    // a loop, since the closure of a filter would change the chain
     let mut taken = 0u32;
     for _ in 0..40 {
         if chain.inject(End::West, &mut Sheet::new(bytes, 0)).is_ok() {

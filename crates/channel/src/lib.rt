@@ -11,7 +11,8 @@ pub mod wire;
 use symbol::{Item, Note, Symbol};
 
 // A channel is known by its items in order, whether the first is ready, and whether it has space.
-// `calls` says what each call makes of `model`; `lawful` says what all channels have in common.
+// `calls` says what each call makes of `model`; `lawful` says what all channels have in common. `model` is a member
+// here, and no impl of the library's Model, since generic code speaks of it.
 pub trait Channel {
     // The letter of this kind of channel, and what clauses read of it.
     const LETTER: u8;

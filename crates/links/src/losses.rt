@@ -5,6 +5,7 @@ use loss::script::{LossEntry, LossScript};
 
 const DIRECTIONS: usize = 6;
 
+// It has no model, as the scripts in it have none.
 #[derive(Clone, Copy)]
 pub struct Losses {
     // as many as the longest chain of script has, without a heap

@@ -33,6 +33,7 @@ const BLANK: LossEntry = LossEntry {
     count: 0,
 };
 
+// It has no model, as the ring in it has none.
 #[derive(Clone, Copy)]
 pub struct LossScript {
     entries: Ring<LossEntry, ENTRIES>,

@@ -74,6 +74,7 @@ impl<T: Copy, const N: usize> Ring<T, N> {
         ensures answer { result ≡ head? (contents self.old) }
     {
         let oldest = self.first();
+        // by the length: a proof does not learn from a `?` that a value stands there
         if self.len > 0 {
             self.head = self.place(1);
             self.len -= 1;

@@ -15,6 +15,7 @@ pub enum Links {
     Three,
 }
 
+// Login and lose have their numbers here, and not as types of the chain and of losses: scripts are read below those.
 #[derive(Clone, Copy, PartialEq, Eq, Debug)]
 pub enum Command {
     Chain(Links),

@@ -47,7 +47,8 @@ impl<'a> Token<'a> {
     }
 }
 
-// The tokens of a line that are still to come: the bytes left, and how many stand before them.
+// The tokens of a line that are still to come: the bytes left, and how many stand before them. Contracts read them by
+// `left`: a Copy type's Model must give its fields back, and tokens do not tell the spaces between.
 #[derive(Clone, Copy, PartialEq, Eq, Debug)]
 pub struct Tokens<'a> {
     rest: &'a [u8],

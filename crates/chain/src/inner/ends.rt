@@ -100,9 +100,7 @@ impl<B: Bank> Inner<B> {
     {
         self.check_inject(end, sheet.room())?;
         let port = self.end_port(end);
-        let Some(frame) = self.ports.inject(port) else {
-            return Err(Refusal::OutboxFull);
-        };
+        let frame = self.ports.inject(port).ok_or(Refusal::OutboxFull)?;
         sheet.write(Event::Frame(FrameKind::Injected, port.number, frame));
         Ok(())
     }
