@@ -77,6 +77,9 @@ impl<B: Bank> Inner<B> {
         Ok(())
     }
 
+    // Each check also tells what is left, for the proof of the call that writes: it is known only of what was accepted,
+    // and so of no type.
+
     // Whether an inject is refused, with so many bytes left.
     fn check_inject(&self, end: End, room: usize) -> Result<(), Refusal>
         ensures value { result ≡ answer (inject_refusal B.Bank.calls (chain_of B.Bank.model self.now) end room) tt }
