@@ -6,4 +6,6 @@ mod cases;
 #[cfg(test)]
 mod damage;
 #[cfg(test)]
+mod listings;
+#[cfg(test)]
 mod sheets;
