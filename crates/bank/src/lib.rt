@@ -12,6 +12,7 @@ use symbol::Item;
 
 // A call at a channel's number is that channel's own call; at any other number put refuses, take says none,
 // there is no space, idle is yes and the letter is a hyphen. `lawful` says what all banks have in common.
+// `model` is a member here, and no impl of the library's Model, since generic code speaks of it.
 pub trait Bank {
     ghost Model: { Type 0 };
 

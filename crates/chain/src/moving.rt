@@ -77,6 +77,7 @@ impl<B: Bank, S: Moving> Chain<B, S> {
     pub fn figures(&self, port: u8) -> Option<Figures>
         ensures { result ≡ figures_at (chain_of B.Bank.model self.now.inner) port }
     {
+        // a then_some would build the port's number before the bound is known, and a closure of then is no plainer
         if port < 2 * self.inner.links {
             Some(self.inner.ports.at(PortNumber { number: port }).figures())
         } else {

@@ -54,6 +54,7 @@ impl<T: Copy, const N: usize> Ring<T, N> {
     pub fn get(&self, i: usize) -> Option<T>
         ensures { result ≡ slice_get (contents self.now) i }
     {
+        // by the length, since the values are no slice: they may pass the array's end
         if i >= self.len {
             return None;
         }

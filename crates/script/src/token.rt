@@ -4,7 +4,8 @@ ghost use Rattle.std.specs.Prelude.{◌+◌, ◌<◌, ◌^◌, length};
 use crate::fault::Place;
 use crate::scan::{read_number, split_run};
 
-// A number, a letter or another word: its bytes, what they say, and their place.
+// A number, a letter or another word: its bytes, what they say, and their place. Contracts read it by `seen`: a Copy
+// type's Model must give its fields back, and bytes do not tell where they lie.
 #[derive(Clone, Copy, PartialEq, Eq, Debug)]
 pub enum Token<'a> {
     Number(&'a [u8], u32, Place),
