@@ -67,8 +67,6 @@ impl<B: Bank> Chain<B, Cabled> {
         ensures run { Continues B.Bank.calls is_cabled is_running
             (chain_of B.Bank.model self.inner) (chain_of B.Bank.model result.inner) [] }
     {
-        let Chain { inner, state: _ } = self;
-        let state = Running;
-        Chain { inner, state }
+        self.in_state(Running)
     }
 }

@@ -33,9 +33,7 @@ impl<B: Bank> Chain<B, Running> {
         ensures run { Continues B.Bank.calls is_running is_draining
             (chain_of B.Bank.model self.inner) (chain_of B.Bank.model result.inner) [] }
     {
-        let Chain { inner, state: _ } = self;
-        let state = Draining;
-        Chain { inner, state }
+        self.in_state(Draining)
     }
 }
 
