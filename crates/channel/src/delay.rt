@@ -71,7 +71,7 @@ impl Channel for DelayRing {
     }
 
     fn step(&mut self) {
-        self.waiting.update(Timed::counted_down);
+        self.waiting.count_down();
     }
 
     fn has_space(&self) -> bool {

@@ -1,7 +1,7 @@
 // An item and the steps that it still waits.
 ghost use Rattle.channel.specs.Timed.{nearer};
-ghost use Rattle.std.specs.Prelude.{◌≡◌};
 
+use ring::each::Countdown;
 use symbol::Item;
 
 #[derive(Clone, Copy)]
@@ -10,14 +10,13 @@ pub struct Timed {
     pub wait: u16,
 }
 
-impl Timed {
-    // The item, one step nearer.
-    pub fn counted_down(self) -> Self
-        ensures { result ≡ nearer self }
-    {
+impl Countdown for Timed {
+    ghost counted = { nearer };
+
+    fn counted_down(&self) -> Timed {
         Timed {
             wait: self.wait.saturating_sub(1),
-            ..self
+            ..*self
         }
     }
 }

@@ -5,6 +5,7 @@ ghost use Rattle.ring.specs.Queue.{pushed};
 ghost use Rattle.std.specs.Prelude.{◌≡◌, [], length, nat_lt};
 
 use ring::Ring;
+use ring::each::Test;
 use symbol::SymbolKind;
 
 const ENTRIES: usize = 16;
@@ -32,6 +33,21 @@ const BLANK: LossEntry = LossEntry {
     first: 0,
     count: 0,
 };
+
+// A put, by its kind and its number among the puts of that kind.
+#[derive(Clone, Copy)]
+struct Turn {
+    kind: SymbolKind,
+    number: u32,
+}
+
+impl Test<LossEntry> for Turn {
+    ghost passes = { λ t e. covers e t.kind t.number };
+
+    fn passes(&self, entry: LossEntry) -> bool {
+        entry.covers(self.kind, self.number)
+    }
+}
 
 // It has no model, as the ring in it has none.
 #[derive(Clone, Copy)]
@@ -62,6 +78,6 @@ impl LossScript {
     pub fn names(&self, kind: SymbolKind, number: u32) -> bool
         ensures { result ≡ names (script_state self.now) kind number }
     {
-        self.entries.any(|entry| entry.covers(kind, number))
+        self.entries.any(&Turn { kind, number })
     }
 }

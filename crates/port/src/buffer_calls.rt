@@ -1,11 +1,36 @@
 // The calls on the buffers.
-ghost use Rattle.std.specs.Prelude.{◌≡◌, if◌then◌else◌, min, nat_lt, not};
+ghost use Rattle.std.specs.Prelude.{◌≡◌, ◌==◌, if◌then◌else◌, min, nat_lt, not};
 ghost use Rattle.port.specs.Port.{among, answered, emptied, filled, free, is_full, lent_out, owing, returned};
 ghost use Rattle.port.specs.View.{buffers_of};
 ghost use Rattle.ring.specs.Queue.{head?};
 
 use super::Buffers;
+use ring::each::Test;
 use symbol::Frame;
+
+// Asks of a number whether it is this one.
+#[derive(Clone, Copy)]
+struct Is(u32);
+
+impl Test<u32> for Is {
+    ghost passes = { λ t x. (x == t.0) };
+
+    fn passes(&self, number: u32) -> bool {
+        number == self.0
+    }
+}
+
+// Asks of a number whether it is another.
+#[derive(Clone, Copy)]
+struct IsNot(u32);
+
+impl Test<u32> for IsNot {
+    ghost passes = { λ t x. not (x == t.0) };
+
+    fn passes(&self, number: u32) -> bool {
+        number != self.0
+    }
+}
 
 impl Buffers {
     fn is_full(&self) -> bool
@@ -88,7 +113,7 @@ impl Buffers {
     pub(crate) fn is_out(&self, number: u32) -> bool
         ensures { result ≡ among number (buffers_of self.now).out }
     {
-        self.out.any(|n| n == number)
+        self.out.any(&Is(number))
     }
 
     // The buffer of a frame that was handed out is free again.
@@ -96,7 +121,7 @@ impl Buffers {
         ensures { buffers_of self.new ≡ returned (buffers_of self.old) number }
     {
         if self.is_out(number) {
-            self.out.retain(|n| n != number);
+            self.out.retain(&IsNot(number));
             self.held -= 1;
             self.owed += 1;
         }

@@ -1,3 +1,2 @@
 pub mod Queue
 pub mod Contents
-pub mod Closures

@@ -1,24 +1,43 @@
 // What a ring does with each of its values.
 ghost use Rattle.ring.specs.Contents.{contents};
-ghost use Rattle.ring.specs.Closures.{Computes};
 ghost use Rattle.ring.specs.Queue.{any};
 ghost use Rattle.std.specs.Prelude.{◌≡◌, Bool, ◌++◌, filter, map};
 
 use super::Ring;
 
-impl<T: Copy, const N: usize> Ring<T, N> {
-    // Changes every value in place.
-    pub fn update<F: Fn(T) -> T>(&mut self, change: F)
-        requires { F.IsAlwaysCallable change }
-        ensures { (f : T → T) → Computes F.Fn change f → contents self.new ≡ map f (contents self.old) }
+// A closure in place of these two traits would need a `requires` on each call that takes it: a closure that is handed
+// in may be called only where the contract says so.
+
+// A value that can be counted down.
+pub trait Countdown {
+    ghost counted: { Self → Self };
+
+    fn counted_down(&self) -> Self
+        ensures { result ≡ counted self.now };
+}
+
+// A question about a value.
+pub trait Test<T> {
+    ghost passes: { Self → T → Bool };
+
+    fn passes(&self, x: T) -> bool
+        ensures { result ≡ passes self.now x };
+}
+
+impl<T: Copy + Countdown, const N: usize> Ring<T, N> {
+    // Counts every value down, in one pass.
+    pub fn count_down(&mut self)
+        ensures { contents self.new ≡ map T.Countdown.counted (contents self.old) }
     {
         // By index: a mutable slice for each end of the array would take a loop each.
         for i in 0..self.len {
             let at = self.place(i);
-            self.places[at] = change(self.places[at]);
+            self.places[at] = self.places[at].counted_down();
         }
     }
+}
 
+impl<T: Copy, const N: usize> Ring<T, N> {
     // The values up to the end of the array, and then those from its start on.
     fn as_slices(&self) -> (&[T], &[T])
         ensures { result.0.now ++ result.1.now ≡ contents self.now }
@@ -30,24 +49,22 @@ impl<T: Copy, const N: usize> Ring<T, N> {
     }
 
     // Whether some value passes the test.
-    pub fn any<F: Fn(T) -> bool>(&self, test: F) -> bool
-        requires { F.IsAlwaysCallable test }
-        ensures { (p : T → Bool) → Computes F.Fn test p → result ≡ any p (contents self.now) }
+    pub fn any<Q: Test<T>>(&self, test: &Q) -> bool
+        ensures { result ≡ any (Q.Test.passes test.now) (contents self.now) }
     {
         let (front, back) = self.as_slices();
-        front.iter().chain(back).any(|x| test(*x))
+        front.iter().chain(back).any(|x| test.passes(*x))
     }
 
-    // Drops the values that are not to be kept; the others keep their order.
-    pub fn retain<F: Fn(T) -> bool>(&mut self, keep: F)
-        requires { F.IsAlwaysCallable keep }
-        ensures { (p : T → Bool) → Computes F.Fn keep p → contents self.new ≡ filter p (contents self.old) }
+    // Drops the values that do not pass the test; the others keep their order.
+    pub fn retain<Q: Test<T>>(&mut self, test: &Q)
+        ensures { contents self.new ≡ filter (Q.Test.passes test.now) (contents self.old) }
     {
         // Each value in turn comes out, and goes in again as the last if it is kept: no second array, and no heap.
         for _turn in 0..self.len {
             // Two tests: where a test of `if let .. && ..` fails, a proof does not learn which.
             if let Some(oldest) = self.pop() {
-                if keep(oldest) {
+                if test.passes(oldest) {
                     let _ = self.push(oldest);
                 }
             }
