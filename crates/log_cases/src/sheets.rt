@@ -1,6 +1,6 @@
 // Records written to sheets with room and without.
 
-ghost use Rattle.eventlog.specs.Sheet.{Sheet as Written, logged};
+ghost use Rattle.eventlog.specs.Sheet.{Sheet as Written, Whole, logged};
 ghost use Rattle.std.specs.Prelude.{◌≡◌, [], ◌∷◌};
 
 use eventlog::event::{Event, ItemKind};
@@ -11,7 +11,8 @@ use symbol::{Frame, Symbol};
 
 // A sheet over some bytes leaves in them what was written.
 fn write_all(bytes: &mut [u8], used: usize, events: &[Event]) -> usize
-    ensures { ◌≡◌ {A = Written} (bytes.new, result) (logged (bytes.old, used) events.now) }
+    ensures each { ◌≡◌ {A = Written} (bytes.new, result) (logged (bytes.old, used) events.now) }
+    ensures whole { Whole (bytes.old, used) events.now (bytes.new, result) }
 {
     let mut sheet = Sheet::new(bytes, used);
     sheet.write_all(events);
