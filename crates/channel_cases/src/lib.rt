@@ -1,5 +1,7 @@
-// Cases of channels and banks, run beside the proofs.
+// Cases of rings, channels and banks, run beside the proofs.
 #![tactic(auto)]
+
+mod rings;
 
 use channel::Channel;
 use channel::wire::Wire;

@@ -5,7 +5,7 @@ ghost use Rattle.std.specs.Prelude.{◌≡◌, Bool, ◌++◌, filter, map};
 
 use super::Ring;
 
-// A closure in place of these two traits would need a `requires` on each call that takes it: a closure that is handed
+// A closure in place of these three traits would need a `requires` on each call that takes it: a closure that is handed
 // in may be called only where the contract says so.
 
 // A value that can be counted down.
@@ -14,6 +14,14 @@ pub trait Countdown {
 
     fn counted_down(&self) -> Self
         ensures { result ≡ counted self.now };
+}
+
+// A change of a value.
+pub trait Change<T> {
+    ghost changed: { Self → T → T };
+
+    fn changed(&self, x: T) -> T
+        ensures { result ≡ changed self.now x };
 }
 
 // A question about a value.
@@ -38,6 +46,16 @@ impl<T: Copy + Countdown, const N: usize> Ring<T, N> {
 }
 
 impl<T: Copy, const N: usize> Ring<T, N> {
+    // Changes every value in place.
+    pub fn update<C: Change<T>>(&mut self, change: &C)
+        ensures { contents self.new ≡ map (C.Change.changed change.now) (contents self.old) }
+    {
+        for i in 0..self.len {
+            let at = self.place(i);
+            self.places[at] = change.changed(self.places[at]);
+        }
+    }
+
     // The values up to the end of the array, and then those from its start on.
     fn as_slices(&self) -> (&[T], &[T])
         ensures { result.0.now ++ result.1.now ≡ contents self.now }
