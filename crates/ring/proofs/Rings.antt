@@ -55,6 +55,21 @@ mapped_all f k old l =
     ∙ ap (λ ys. map f old ++ ys) (drop_all k old l)
     ∙ append-nil (map f old)
 
+-- after k turns of a pass over the values of `old`, f has changed the first k
+abbrev pub Passed : {T : Type 0} {n : ℕ} → (T → T) → Ring T n → ℕ → Ring T n → Type 0
+Passed f old k r = (contents r ≡ map f (take k (contents old)) ++ drop k (contents old)) × (r.len ≡ old.len)
+
+module _ {T : Type 0} {n : ℕ} (f : T → T) (old r : Ring T n) (k : ℕ) (inv : Passed f old k r) where
+  pub passed_more : (at : ℕ) (x y : T) → k < r.len → at ≡ place n r.head k →
+      x ≡ get_or r.places at x → y ≡ f (get_or r.places at x) →
+      (window (set r.places at y) r.head r.len ≡ map f (take (k + 1) (contents old)) ++ drop (k + 1) (contents old))
+      × (r.len ≡ old.len)
+  passed_more at x y l e is new =
+      (mapped_more r k at x l e f (contents old) y (ring_length old ∙ sym inv.1) inv.0 is new, inv.1)
+
+  pub passed_all : old.len ≤ k → contents r ≡ map f (contents old)
+  passed_all l = inv.0 ∙ mapped_all f k (contents old) (omega (arith, ring_length old))
+
 pub any_same : {X : Type 0} (p : X → Bool) (xs : List X) → list_any p xs ≡ any p xs
 any_same p [] = refl
 any_same p (x ∷ xs) = ap (λ b. p x || b) (any_same p xs)

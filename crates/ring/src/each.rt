@@ -34,6 +34,7 @@ pub trait Test<T> {
 
 impl<T: Copy + Countdown, const N: usize> Ring<T, N> {
     // Counts every value down, in one pass.
+    #[tactic(auto, using(crate::proofs::Rings::passed_all, crate::proofs::Rings::passed_more))]
     pub fn count_down(&mut self)
         ensures { contents self.new ≡ map T.Countdown.counted (contents self.old) }
     {
@@ -47,6 +48,7 @@ impl<T: Copy + Countdown, const N: usize> Ring<T, N> {
 
 impl<T: Copy, const N: usize> Ring<T, N> {
     // Changes every value in place.
+    #[tactic(auto, using(crate::proofs::Rings::passed_all, crate::proofs::Rings::passed_more))]
     pub fn update<C: Change<T>>(&mut self, change: &C)
         ensures { contents self.new ≡ map (C.Change.changed change.now) (contents self.old) }
     {
